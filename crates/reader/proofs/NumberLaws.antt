@@ -1,0 +1,259 @@
+-- Laws of numbers of a fixed width, over the width and the byte order.
+use Prim.Native.Nat.{ℕ, zero, suc, _+_, _*_, _-_, _^_, _%_, _/_, _≤_, _<_}
+use mathlib.Core.Path.{_≡_, refl, sym, ap, _∙_}
+use mathlib.Core.List.{List, [], _∷_, _++_, reverse, reverse-append, reverse-reverse, reverse-cons}
+use mathlib.Core.Logic.{_⊎_, inl, inr, ⊎-elim}
+use native.Mathlib.Nat.{mul-assoc, mul-add, mul-comm, pow-succ', mod-add-div}
+use native.Mathlib.Omega.{arith}
+use lib.ListN.{length, take, drop, getD, length-take, length-drop, length-reverse, length-append}
+use lib.Seq.{slice, take-add, drop-drop, drop-cons, take-at}
+use lib.Dec.{leb, ltb, eqb}
+use borrow.Author.Tests.{le-leb, lt-leb, leb-true}
+use Rattle.reader.specs.Outcome.{Outcome, answered, refused, _>>=_}
+use Rattle.reader.specs.Parts.{leftAt, Forward}
+use Rattle.reader.specs.Numbers.{Bytes, none, more, digits, spelled, digitsOf, bytesOf, numberAt, Read, readNumber, readByte, Length, initialLength}
+use Rattle.reader.specs.declared.endianity.RunTimeEndian.{RunTimeEndian}
+use Rattle.reader.specs.declared.endianity.RunTimeEndian.the-variants.{Little, Big}
+use Rattle.reader.proofs.OutcomeLaws.{bind-answered, cond-answered, cond-is, same-answer, bind-same}
+use Rattle.reader.proofs.PartLaws.{left-is-length, slice-first, slice-none, slice-take, slice-later}
+
+pub digits-append : (xs ys : List ℕ) → digits (xs ++ ys) ≡ digits xs + 256 ^ length xs * digits ys
+unfolding digits
+digits-append [] ys = omega arith
+digits-append (x ∷ xs) ys = rw (digits-append xs ys, pow-succ', mul-add, mul-assoc) (omega arith)
+
+-- where the low and the high half of a number of n + n bytes stand
+abbrev lowAt : RunTimeEndian → ℕ → ℕ → ℕ
+lowAt Little n at = at
+lowAt Big n at = at + n
+
+abbrev highAt : RunTimeEndian → ℕ → ℕ → ℕ
+highAt Little n at = at + n
+highAt Big n at = at
+
+-- a number of n + n bytes is made of its halves
+pub number-join : (order : RunTimeEndian) (n : ℕ) (s : List ℕ) (at : ℕ) → at + (n + n) ≤ length s
+    → numberAt order n s (lowAt order n at) + 256 ^ n * numberAt order n s (highAt order n at) ≡ numberAt order (n + n) s at
+unfolding numberAt spelled
+number-join Little n s at h =
+    let front : length (take n (drop at s)) ≡ n = simp (length-take, length-drop) (omega arith) in
+    rw (take-add, drop-drop, digits-append, front)
+number-join Big n s at h =
+    let back : length (take n (drop (at + n) s)) ≡ n = simp (length-take, length-drop) (omega arith) in
+    rw (take-add, drop-drop, reverse-append, digits-append, length-reverse, back)
+
+-- a number of one byte is that byte, in either order
+pub number-one : (order : RunTimeEndian) (s : List ℕ) (at : ℕ) → at < length s → numberAt order 1 s at ≡ getD s at 0
+unfolding numberAt spelled digits
+number-one Little s at h = rw (drop-cons s at 0) (omega arith)
+number-one Big s at h = rw (drop-cons s at 0) (omega arith)
+
+-- a number of two bytes
+pub number-two : (order : RunTimeEndian) (s : List ℕ) (at : ℕ) → at + 2 ≤ length s → getD s (lowAt order 1 at) 0 + 256 * getD s (highAt order 1 at) 0 ≡ numberAt order 2 s at
+number-two order s at h =
+    rw (← number-one order s (lowAt order 1 at) (low order), ← number-one order s (highAt order 1 at) (high order)) (number-join order 1 s at h)
+  where
+    low : (order : RunTimeEndian) → lowAt order 1 at < length s
+    low Little = omega arith
+    low Big = omega arith
+
+    high : (order : RunTimeEndian) → highAt order 1 at < length s
+    high Little = omega arith
+    high Big = omega arith
+
+-- where a part has the bytes, the number that they spell is the section's at that place
+pub number-in-part : (order : RunTimeEndian) (n : ℕ) (s : List ℕ) (at end : ℕ) → n ≤ leftAt s at end → spelled order (take n (slice at end s)) ≡ numberAt order n s at
+unfolding numberAt
+number-in-part order n s at end h = rw (slice-take n s at end h)
+
+one-reversed : (bs : List ℕ) → reverse (take 1 bs) ≡ take 1 bs
+one-reversed [] = refl
+one-reversed (b ∷ bs) = refl
+
+-- both orders read one byte alike
+pub one-byte : (order : RunTimeEndian) (s : List ℕ) (at end : ℕ) → readNumber 1 order s at end ≡ readByte s at end
+unfolding readNumber readByte spelled
+one-byte Little s at end = refl
+one-byte Big s at end = rw (one-reversed (slice at end s))
+
+-- what an answered read says: the part has the bytes, the number is what they spell, and the next place is past them
+pub read-answered : (n : ℕ) (order : RunTimeEndian) (s : List ℕ) (at end : ℕ) (r : Read) → readNumber n order s at end ≡ answered r
+    → (n ≤ leftAt s at end) × (r .value ≡ numberAt order n s at) × (r .next ≡ at + n)
+unfolding readNumber
+read-answered n order s at end r e =
+    let (fits, same) = cond-answered (leb n (leftAt s at end)) _ 1 at r e in
+    let inside : n ≤ leftAt s at end = leb-true _ _ fits in
+    (inside, ap (λ q. q .value) (sym (same-answer same)) ∙ number-in-part order n s at end inside, ap (λ q. q .next) (sym (same-answer same)))
+
+pub byte-answered : (s : List ℕ) (at end : ℕ) (r : Read) → readByte s at end ≡ answered r
+    → (1 ≤ leftAt s at end) × (r .value ≡ getD s at 0) × (r .next ≡ at + 1)
+unfolding readByte
+byte-answered s at end r e =
+    let (fits, value, next) = read-answered 1 Little s at end r e in
+    (fits, value ∙ number-one Little s at (omega arith), next)
+
+-- where the part has the bytes they are read, and where it has fewer they are refused
+pub number-read : (n : ℕ) (order : RunTimeEndian) (s : List ℕ) (at end : ℕ) → n ≤ leftAt s at end → readNumber n order s at end ≡ answered (record { value = numberAt order n s at; next = at + n })
+unfolding readNumber
+number-read n order s at end h = rw (le-leb n (leftAt s at end) h, number-in-part order n s at end h)
+
+pub number-missing : (n : ℕ) (order : RunTimeEndian) (s : List ℕ) (at end : ℕ) → leftAt s at end < n → readNumber n order s at end ≡ refused 1 at
+unfolding readNumber
+number-missing n order s at end h = rw (lt-leb n (leftAt s at end) h)
+
+pub byte-read : (s : List ℕ) (at end : ℕ) → 1 ≤ leftAt s at end → readByte s at end ≡ answered (record { value = getD s at 0; next = at + 1 })
+unfolding readByte
+byte-read s at end h = rw (number-read 1 Little s at end h, number-one Little s at (omega arith))
+
+pub byte-missing : (s : List ℕ) (at end : ℕ) → leftAt s at end < 1 → readByte s at end ≡ refused 1 at
+unfolding readByte
+byte-missing s at end h = number-missing 1 Little s at end h
+
+-- a read of at least one byte is read forward
+pub read-forward : (n : ℕ) (order : RunTimeEndian) (s : List ℕ) (at end : ℕ) (r : Read) → 1 ≤ n → readNumber n order s at end ≡ answered r → Forward s at end (r .next)
+read-forward n order s at end r h e =
+    let (fits, value, next) = read-answered n order s at end r e in
+    omega arith
+
+-- a read looks at no byte outside its part: sections with the same bytes there are read alike
+pub read-part : (n : ℕ) (order : RunTimeEndian) (s t : List ℕ) (at end : ℕ) → slice at end s ≡ slice at end t → readNumber n order s at end ≡ readNumber n order t at end
+unfolding readNumber
+read-part n order s t at end e = rw (← left-is-length s at end, ← left-is-length t at end, e)
+
+-- the number of n digits, back from its digits
+digits-of : (n v : ℕ) → v < 256 ^ n → digits (digitsOf n v) ≡ v
+unfolding digits digitsOf
+digits-of zero v h = omega arith
+digits-of (suc n) v h =
+    let p : v < 256 * 256 ^ n = rw (← pow-succ') h in
+    let q : v / 256 < 256 ^ n = omega arith in
+    rw (digits-of n (v / 256) q) (mod-add-div v 256)
+
+digits-of-length : (n v : ℕ) → length (digitsOf n v) ≡ n
+unfolding digitsOf
+digits-of-length zero v = refl
+digits-of-length (suc n) v = ap suc (digits-of-length n (v / 256))
+
+digits-back : {bs : List ℕ} → Bytes bs → digitsOf (length bs) (digits bs) ≡ bs
+unfolding digits digitsOf
+digits-back none = refl
+digits-back (more {b} {bs} h r) =
+    let low : (b + 256 * digits bs) % 256 ≡ b = omega arith in
+    let high : (b + 256 * digits bs) / 256 ≡ digits bs = omega arith in
+    rw (low, high, digits-back r)
+
+digits-below : {bs : List ℕ} → Bytes bs → digits bs < 256 ^ length bs
+unfolding digits
+digits-below none = omega arith
+digits-below (more {b} {bs} h r) = rw pow-succ' (omega (arith, digits-below r))
+
+-- lists of bytes: what a section's own elements say, and the parts of a list
+pub bytes-of : (s : List ℕ) → ((i : ℕ) → getD s i 0 < 256) → Bytes s
+bytes-of [] h = none
+bytes-of (b ∷ bs) h = more (h 0) (bytes-of bs (λ i. h (suc i)))
+
+bytes-append : {xs ys : List ℕ} → Bytes xs → Bytes ys → Bytes (xs ++ ys)
+bytes-append none k = k
+bytes-append (more h r) k = more h (bytes-append r k)
+
+bytes-reverse : {bs : List ℕ} → Bytes bs → Bytes (reverse bs)
+bytes-reverse none = none
+bytes-reverse (more {b} {bs} h r) = rw (reverse-cons b bs) (bytes-append (bytes-reverse r) (more h none))
+
+bytes-take : (n : ℕ) {bs : List ℕ} → Bytes bs → Bytes (take n bs)
+bytes-take zero r = none
+bytes-take (suc n) none = none
+bytes-take (suc n) (more h r) = more h (bytes-take n r)
+
+bytes-drop : (n : ℕ) {bs : List ℕ} → Bytes bs → Bytes (drop n bs)
+bytes-drop zero r = r
+bytes-drop (suc n) none = none
+bytes-drop (suc n) (more h r) = bytes-drop n r
+
+spelled-below : (order : RunTimeEndian) {bs : List ℕ} → Bytes bs → spelled order bs < 256 ^ length bs
+unfolding spelled
+spelled-below Little h = digits-below h
+spelled-below Big {bs} h = rw (length-reverse bs) at (digits-below (bytes-reverse h))
+
+-- a number of n bytes is below 256 ^ n
+pub read-below : (n : ℕ) (order : RunTimeEndian) (s : List ℕ) (at end : ℕ) (r : Read) → Bytes s → readNumber n order s at end ≡ answered r → r .value < 256 ^ n
+unfolding numberAt
+read-below n order s at end r h e =
+    let (fits, value, next) = read-answered n order s at end r e in
+    let all : length (take n (drop at s)) ≡ n = simp (length-take, length-drop) (omega arith) in
+    rw value (rw all at (spelled-below order (bytes-take n (bytes-drop at h))))
+
+-- the bytes of a number are n
+pub bytes-length : (order : RunTimeEndian) (n v : ℕ) → length (bytesOf order n v) ≡ n
+unfolding bytesOf
+bytes-length Little n v = digits-of-length n v
+bytes-length Big n v = length-reverse (digitsOf n v) ∙ digits-of-length n v
+
+-- the round trip: a number's bytes spell it, and what bytes spell has these bytes
+pub bytes-spell : (order : RunTimeEndian) (n v : ℕ) → v < 256 ^ n → spelled order (bytesOf order n v) ≡ v
+unfolding spelled bytesOf
+bytes-spell Little n v h = digits-of n v h
+bytes-spell Big n v h = rw (reverse-reverse (digitsOf n v)) (digits-of n v h)
+
+pub spelled-bytes : (order : RunTimeEndian) {bs : List ℕ} → Bytes bs → bytesOf order (length bs) (spelled order bs) ≡ bs
+unfolding spelled bytesOf
+spelled-bytes Little h = digits-back h
+spelled-bytes Big {bs} h = ap reverse (rw (length-reverse bs) at (digits-back (bytes-reverse h))) ∙ reverse-reverse bs
+
+-- so a number that was written is read back, with the next place right after it
+pub read-back : (order : RunTimeEndian) (n v : ℕ) (s after : List ℕ) (at end : ℕ) → v < 256 ^ n → slice at end s ≡ bytesOf order n v ++ after
+    → readNumber n order s at end ≡ answered (record { value = v; next = at + n })
+unfolding readNumber
+read-back order n v s after at end h e =
+    let whole : length (slice at end s) ≡ n + length after = rw (e, length-append, bytes-length order n v) in
+    let fits : n ≤ leftAt s at end = rw (← left-is-length s at end) (omega arith) in
+    rw (le-leb n (leftAt s at end) fits, e, take-at (bytesOf order n v) after n (bytes-length order n v), bytes-spell order n v h)
+
+-- an initial length is a number of 4 bytes, or one of 8 after it
+length-cases : (order : RunTimeEndian) (s : List ℕ) (at end : ℕ) (l : Length) → initialLength order s at end ≡ answered l
+    → (first : Read) × (readNumber 4 order s at end ≡ answered first)
+    × (((l .length ≡ first .value) × (l .next ≡ first .next))
+    ⊎ ((wide : Read) × (readNumber 8 order s (first .next) end ≡ answered wide) × (l .length ≡ wide .value) × (l .next ≡ wide .next)))
+unfolding initialLength
+length-cases order s at end l e =
+    let (first, p, q) = bind-answered (readNumber 4 order s at end) _ l e in (
+      first,
+      p,
+      ⊎-elim
+          (λ w. inl (ap (λ m. m .length) (sym (same-answer (w .1))), ap (λ m. m .next) (sym (same-answer (w .1)))))
+          (λ w.
+          let (t, m) = cond-answered (eqb (first .value) 0xffffffff) _ 2 (first .value) l (w .1) in
+          let (wide, o, u) = bind-answered (readNumber 8 order s (first .next) end) _ l m in
+          inr (wide, o, ap (λ m. m .length) (sym (same-answer u)), ap (λ m. m .next) (sym (same-answer u))))
+          (cond-is (ltb (first .value) 0xfffffff0) _ _ (answered l) q),
+    )
+
+-- it is read forward
+pub length-forward : (order : RunTimeEndian) (s : List ℕ) (at end : ℕ) (l : Length) → initialLength order s at end ≡ answered l → Forward s at end (l .next)
+length-forward order s at end l e =
+    let (first, p, w) = length-cases order s at end l e in
+    let (fits, value, next) = read-answered 4 order s at end first p in
+    ⊎-elim
+    (λ u. omega arith)
+    (λ u. let (fits′, value′, next′) = read-answered 8 order s (first .next) end (u .0) (u .1) in omega arith)
+    w
+
+-- it is below 2 ^ 64
+pub length-below : (order : RunTimeEndian) (s : List ℕ) (at end : ℕ) (l : Length) → Bytes s → initialLength order s at end ≡ answered l → l .length < 2 ^ 64
+length-below order s at end l h e =
+    let (first, p, w) = length-cases order s at end l e in
+    let small : first .value < 256 ^ 4 = read-below 4 order s at end first h p in
+    ⊎-elim
+    (λ u. omega arith)
+    (λ u. let wide : (u .0) .value < 256 ^ 8 = read-below 8 order s (first .next) end (u .0) h (u .1) in omega arith)
+    w
+
+-- it looks at no byte outside its part
+pub length-part : (order : RunTimeEndian) (s t : List ℕ) (at end : ℕ) → slice at end s ≡ slice at end t → initialLength order s at end ≡ initialLength order t at end
+unfolding initialLength
+length-part order s t at end e =
+    rw (read-part 4 order s t at end e)
+    (bind-same (readNumber 4 order t at end) _ _ λ first p.
+    let (fits, value, next) = read-answered 4 order t at end first p in
+    let wide : readNumber 8 order s (first .next) end ≡ readNumber 8 order t (first .next) end = rw next (read-part 8 order s t (at + 4) end (slice-later 4 s t at end e)) in
+    rw wide)
