@@ -12,9 +12,10 @@ use lib.Seq.{slice}
 use lib.Dec.{leb, ltb}
 use borrow.Author.Tests.{le-leb, lt-leb, leb-true, leb-false, lt-ltb, le-ltb, ltb-true, ltb-false}
 use Rattle.reader.specs.Outcome.{Outcome, answered, refused, _>>=_, _>>_, demand, refuseIf}
-use Rattle.reader.specs.Parts.{leftAt, Forward}
+use Rattle.reader.specs.Parts.{partEnd, leftAt, Forward}
 use Rattle.reader.specs.Numbers.{Read, readByte}
 use Rattle.reader.specs.Leb128.{numberBytes, complete, base128, Limit, limited, unsignedLimit, u16Limit, beyond, someBeyond, numberOfBytes, leb128, encodedIn, encoded}
+use Rattle.reader.specs.Sanity.{UnsignedReadsBack, U16ReadsBack, UnsignedBelow, U16Below, Leb128Forward, Leb128InPart}
 use Rattle.reader.proofs.OutcomeLaws.{bind-answered, then-answered, demanded, passed, cond-answered, same-answer, bind-same, bind-assoc}
 use Rattle.reader.proofs.PartLaws.{left-is-length, slice-first, slice-none, slice-later}
 use Rattle.reader.proofs.NumberLaws.{byte-answered, byte-read, byte-missing}
@@ -77,10 +78,10 @@ leb128-step l i s at end = go (leb 1 (leftAt s at end)) refl
     go : (t : Bool) → leb 1 (leftAt s at end) ≡ t → leb128From l i s at end ≡ leb128Step l i s at end
     go true e =
         let h : 1 ≤ leftAt s at end = leb-true _ _ e in
-        rw (byte-read s at end h, slice-first s at end h) (number-byte l i (getD s at 0) (slice (at + 1) end s) at _ _ refl refl)
+        rw (byte-read s at end (omega arith), slice-first s at end h) (number-byte l i (getD s at 0) (slice (at + 1) end s) at _ _ refl refl)
     go false e =
         let h : leftAt s at end < 1 = leb-false _ _ e in
-        rw (byte-missing s at end h, slice-none s at end h) (number-none l i at)
+        rw (byte-missing s at end (omega arith), slice-none s at end h) (number-none l i at)
 
 -- the whole number is the number from position 0 on
 pub leb128-whole : (l : Limit) (s : List ℕ) (at end : ℕ) → leb128 l s at end ≡ leb128From l 0 s at end
@@ -88,7 +89,7 @@ unfolding leb128 leb128From numberOfBytes numberFrom
 leb128-whole l s at end = refl
 
 -- a number looks at no byte outside its part
-pub leb128-part : (l : Limit) (s t : List ℕ) (at end : ℕ) → slice at end s ≡ slice at end t → leb128 l s at end ≡ leb128 l t at end
+pub leb128-part : Leb128InPart
 unfolding leb128
 leb128-part l s t at end e = rw e
 
@@ -117,7 +118,7 @@ complete-some [] e = absurd (false≢true e)
 complete-some (b ∷ bs) e = omega arith
 
 -- a number is read forward
-pub leb128-forward : (l : Limit) (s : List ℕ) (at end : ℕ) (r : Read) → leb128 l s at end ≡ answered r → Forward s at end (r .next)
+pub leb128-forward : Leb128Forward
 leb128-forward l s at end r e =
     let (inside, whole, value, next) = leb128-bytes l s at end r e in
     omega (arith, complete-some (numberBytes (slice at end s)) whole, bytes-among (slice at end s), left-is-length s at end)
@@ -167,10 +168,10 @@ leb128-below l low s at end r e =
     let (inside, whole, value, next) = leb128-bytes l s at end r e in
     rw value (below l low (slice at end s) 0 (l .last) (omega arith) inside whole)
 
-pub unsigned-below : (s : List ℕ) (at end : ℕ) (r : Read) → leb128 unsignedLimit s at end ≡ answered r → r .value < 2 ^ 64
+pub unsigned-below : UnsignedBelow
 unsigned-below s at end r e = leb128-below unsignedLimit (omega arith) s at end r e
 
-pub u16-below : (s : List ℕ) (at end : ℕ) (r : Read) → leb128 u16Limit s at end ≡ answered r → r .value < 2 ^ 16
+pub u16-below : U16Below
 u16-below s at end r e = leb128-below u16Limit (omega arith) s at end r e
 
 -- 7.6's encoder, a byte at a time: turns enough give the same bytes
@@ -234,12 +235,10 @@ leb128-back l low n s after at end h e =
     let w = wrote n n after (omega arith) in
     rw (e, w .bytes, wrote-inside l low n n 0 (l .last) (omega arith) h (omega arith), w .whole, w .value)
 
-pub unsigned-back : (n : ℕ) (s after : List ℕ) (at end : ℕ) → n < 2 ^ 64 → slice at end s ≡ encoded n ++ after
-    → leb128 unsignedLimit s at end ≡ answered (record { value = n; next = at + length (encoded n) })
+pub unsigned-back : UnsignedReadsBack
 unsigned-back n s after at end h e = leb128-back unsignedLimit (omega arith) n s after at end h e
 
-pub u16-back : (n : ℕ) (s after : List ℕ) (at end : ℕ) → n < 2 ^ 16 → slice at end s ≡ encoded n ++ after
-    → leb128 u16Limit s at end ≡ answered (record { value = n; next = at + length (encoded n) })
+pub u16-back : U16ReadsBack
 u16-back n s after at end h e = leb128-back u16Limit (omega arith) n s after at end h e
 
 -- A number, a byte at a time: what the readers of this crate cite. Before the last position a byte below 128 ends the number.

@@ -7,15 +7,15 @@ use native.Mathlib.Nat.{mul-assoc, mul-add, mul-comm, pow-succ', mod-add-div}
 use native.Mathlib.Omega.{arith}
 use lib.ListN.{length, take, drop, getD, length-take, length-drop, length-reverse, length-append}
 use lib.Seq.{slice, take-add, drop-drop, drop-cons, take-at}
-use lib.Dec.{leb, ltb, eqb}
-use borrow.Author.Tests.{le-leb, lt-leb, leb-true}
+use lib.Dec.{ltb, eqb}
 use Rattle.reader.specs.Outcome.{Outcome, answered, refused, _>>=_}
-use Rattle.reader.specs.Parts.{leftAt, Forward}
+use Rattle.reader.specs.Parts.{partEnd, leftAt, Forward, skipped}
 use Rattle.reader.specs.Numbers.{Bytes, none, more, digits, spelled, digitsOf, bytesOf, numberAt, Read, readNumber, readByte, Length, initialLength}
+use Rattle.reader.specs.Sanity.{BytesSpell, SpelledBytes, NumbersReadBack, NumbersBelow, LengthsBelow, NumbersForward, LengthsForward, NumbersInPart, LengthsInPart}
 use Rattle.reader.specs.declared.endianity.RunTimeEndian.{RunTimeEndian}
 use Rattle.reader.specs.declared.endianity.RunTimeEndian.the-variants.{Little, Big}
 use Rattle.reader.proofs.OutcomeLaws.{bind-answered, cond-answered, cond-is, same-answer, bind-same}
-use Rattle.reader.proofs.PartLaws.{left-is-length, slice-first, slice-none, slice-take, slice-later}
+use Rattle.reader.proofs.PartLaws.{left-is-length, slice-take, slice-later, skip-inside, skip-past, skip-answered, skip-bytes}
 
 pub digits-append : (xs ys : List ℕ) → digits (xs ++ ys) ≡ digits xs + 256 ^ length xs * digits ys
 unfolding digits
@@ -76,49 +76,52 @@ unfolding readNumber readByte spelled
 one-byte Little s at end = refl
 one-byte Big s at end = rw (one-reversed (slice at end s))
 
--- what an answered read says: the part has the bytes, the number is what they spell, and the next place is past them
+-- what an answered read says: it lies inside the part, the number is what the bytes spell, and the next place is past them
 pub read-answered : (n : ℕ) (order : RunTimeEndian) (s : List ℕ) (at end : ℕ) (r : Read) → readNumber n order s at end ≡ answered r
-    → (n ≤ leftAt s at end) × (r .value ≡ numberAt order n s at) × (r .next ≡ at + n)
+    → (at + n ≤ partEnd s end) × (r .value ≡ numberAt order n s at) × (r .next ≡ at + n)
 unfolding readNumber
 read-answered n order s at end r e =
-    let (fits, same) = cond-answered (leb n (leftAt s at end)) _ 1 at r e in
-    let inside : n ≤ leftAt s at end = leb-true _ _ fits in
-    (inside, ap (λ q. q .value) (sym (same-answer same)) ∙ number-in-part order n s at end inside, ap (λ q. q .next) (sym (same-answer same)))
+    let (next, skip, same) = bind-answered (skipped n s at end) _ r e in
+    let (inside, place) = skip-answered n s at end next skip in (
+      inside,
+      ap (λ q. q .value) (sym (same-answer same)) ∙ number-in-part order n s at end (omega arith),
+      ap (λ q. q .next) (sym (same-answer same)) ∙ place,
+    )
 
 pub byte-answered : (s : List ℕ) (at end : ℕ) (r : Read) → readByte s at end ≡ answered r
-    → (1 ≤ leftAt s at end) × (r .value ≡ getD s at 0) × (r .next ≡ at + 1)
+    → (at + 1 ≤ partEnd s end) × (r .value ≡ getD s at 0) × (r .next ≡ at + 1)
 unfolding readByte
 byte-answered s at end r e =
-    let (fits, value, next) = read-answered 1 Little s at end r e in
-    (fits, value ∙ number-one Little s at (omega arith), next)
+    let (inside, value, next) = read-answered 1 Little s at end r e in
+    (inside, value ∙ number-one Little s at (omega arith), next)
 
--- where the part has the bytes they are read, and where it has fewer they are refused
-pub number-read : (n : ℕ) (order : RunTimeEndian) (s : List ℕ) (at end : ℕ) → n ≤ leftAt s at end → readNumber n order s at end ≡ answered (record { value = numberAt order n s at; next = at + n })
+-- bytes that lie inside the part are read, and others are refused
+pub number-read : (n : ℕ) (order : RunTimeEndian) (s : List ℕ) (at end : ℕ) → at + n ≤ partEnd s end → readNumber n order s at end ≡ answered (record { value = numberAt order n s at; next = at + n })
 unfolding readNumber
-number-read n order s at end h = rw (le-leb n (leftAt s at end) h, number-in-part order n s at end h)
+number-read n order s at end h = rw (skip-inside n s at end h, number-in-part order n s at end (omega arith))
 
-pub number-missing : (n : ℕ) (order : RunTimeEndian) (s : List ℕ) (at end : ℕ) → leftAt s at end < n → readNumber n order s at end ≡ refused 1 at
+pub number-missing : (n : ℕ) (order : RunTimeEndian) (s : List ℕ) (at end : ℕ) → partEnd s end < at + n → readNumber n order s at end ≡ refused 1 at
 unfolding readNumber
-number-missing n order s at end h = rw (lt-leb n (leftAt s at end) h)
+number-missing n order s at end h = rw (skip-past n s at end h)
 
-pub byte-read : (s : List ℕ) (at end : ℕ) → 1 ≤ leftAt s at end → readByte s at end ≡ answered (record { value = getD s at 0; next = at + 1 })
+pub byte-read : (s : List ℕ) (at end : ℕ) → at + 1 ≤ partEnd s end → readByte s at end ≡ answered (record { value = getD s at 0; next = at + 1 })
 unfolding readByte
 byte-read s at end h = rw (number-read 1 Little s at end h, number-one Little s at (omega arith))
 
-pub byte-missing : (s : List ℕ) (at end : ℕ) → leftAt s at end < 1 → readByte s at end ≡ refused 1 at
+pub byte-missing : (s : List ℕ) (at end : ℕ) → partEnd s end < at + 1 → readByte s at end ≡ refused 1 at
 unfolding readByte
 byte-missing s at end h = number-missing 1 Little s at end h
 
 -- a read of at least one byte is read forward
-pub read-forward : (n : ℕ) (order : RunTimeEndian) (s : List ℕ) (at end : ℕ) (r : Read) → 1 ≤ n → readNumber n order s at end ≡ answered r → Forward s at end (r .next)
+pub read-forward : NumbersForward
 read-forward n order s at end r h e =
-    let (fits, value, next) = read-answered n order s at end r e in
+    let (inside, value, next) = read-answered n order s at end r e in
     omega arith
 
--- a read looks at no byte outside its part: sections with the same bytes there are read alike
-pub read-part : (n : ℕ) (order : RunTimeEndian) (s t : List ℕ) (at end : ℕ) → slice at end s ≡ slice at end t → readNumber n order s at end ≡ readNumber n order t at end
+-- a read of at least one byte looks at no byte outside its part: sections with the same bytes there are read alike
+pub read-part : NumbersInPart
 unfolding readNumber
-read-part n order s t at end e = rw (← left-is-length s at end, ← left-is-length t at end, e)
+read-part n order s t at end h e = rw (skip-bytes n s t at end h e, e)
 
 -- the number of n digits, back from its digits
 digits-of : (n v : ℕ) → v < 256 ^ n → digits (digitsOf n v) ≡ v
@@ -176,7 +179,7 @@ spelled-below Little h = digits-below h
 spelled-below Big {bs} h = rw (length-reverse bs) at (digits-below (bytes-reverse h))
 
 -- a number of n bytes is below 256 ^ n
-pub read-below : (n : ℕ) (order : RunTimeEndian) (s : List ℕ) (at end : ℕ) (r : Read) → Bytes s → readNumber n order s at end ≡ answered r → r .value < 256 ^ n
+pub read-below : NumbersBelow
 unfolding numberAt
 read-below n order s at end r h e =
     let (fits, value, next) = read-answered n order s at end r e in
@@ -190,24 +193,24 @@ bytes-length Little n v = digits-of-length n v
 bytes-length Big n v = length-reverse (digitsOf n v) ∙ digits-of-length n v
 
 -- the round trip: a number's bytes spell it, and what bytes spell has these bytes
-pub bytes-spell : (order : RunTimeEndian) (n v : ℕ) → v < 256 ^ n → spelled order (bytesOf order n v) ≡ v
+pub bytes-spell : BytesSpell
 unfolding spelled bytesOf
 bytes-spell Little n v h = digits-of n v h
 bytes-spell Big n v h = rw (reverse-reverse (digitsOf n v)) (digits-of n v h)
 
-pub spelled-bytes : (order : RunTimeEndian) {bs : List ℕ} → Bytes bs → bytesOf order (length bs) (spelled order bs) ≡ bs
+pub spelled-bytes : SpelledBytes
 unfolding spelled bytesOf
-spelled-bytes Little h = digits-back h
-spelled-bytes Big {bs} h = ap reverse (rw (length-reverse bs) at (digits-back (bytes-reverse h))) ∙ reverse-reverse bs
+spelled-bytes Little bs h = digits-back h
+spelled-bytes Big bs h = ap reverse (rw (length-reverse bs) at (digits-back (bytes-reverse h))) ∙ reverse-reverse bs
 
 -- so a number that was written is read back, with the next place right after it
-pub read-back : (order : RunTimeEndian) (n v : ℕ) (s after : List ℕ) (at end : ℕ) → v < 256 ^ n → slice at end s ≡ bytesOf order n v ++ after
-    → readNumber n order s at end ≡ answered (record { value = v; next = at + n })
+pub read-back : NumbersReadBack
 unfolding readNumber
-read-back order n v s after at end h e =
+read-back order n v s after at end some h e =
     let whole : length (slice at end s) ≡ n + length after = rw (e, length-append, bytes-length order n v) in
-    let fits : n ≤ leftAt s at end = rw (← left-is-length s at end) (omega arith) in
-    rw (le-leb n (leftAt s at end) fits, e, take-at (bytesOf order n v) after n (bytes-length order n v), bytes-spell order n v h)
+    let room : n ≤ leftAt s at end = rw (← left-is-length s at end) (omega arith) in
+    let fits : at + n ≤ partEnd s end = omega arith in
+    rw (skip-inside n s at end fits, e, take-at (bytesOf order n v) after n (bytes-length order n v), bytes-spell order n v h)
 
 -- an initial length is a number of 4 bytes, or one of 8 after it
 length-cases : (order : RunTimeEndian) (s : List ℕ) (at end : ℕ) (l : Length) → initialLength order s at end ≡ answered l
@@ -229,7 +232,7 @@ length-cases order s at end l e =
     )
 
 -- it is read forward
-pub length-forward : (order : RunTimeEndian) (s : List ℕ) (at end : ℕ) (l : Length) → initialLength order s at end ≡ answered l → Forward s at end (l .next)
+pub length-forward : LengthsForward
 length-forward order s at end l e =
     let (first, p, w) = length-cases order s at end l e in
     let (fits, value, next) = read-answered 4 order s at end first p in
@@ -239,7 +242,7 @@ length-forward order s at end l e =
     w
 
 -- it is below 2 ^ 64
-pub length-below : (order : RunTimeEndian) (s : List ℕ) (at end : ℕ) (l : Length) → Bytes s → initialLength order s at end ≡ answered l → l .length < 2 ^ 64
+pub length-below : LengthsBelow
 length-below order s at end l h e =
     let (first, p, w) = length-cases order s at end l e in
     let small : first .value < 256 ^ 4 = read-below 4 order s at end first h p in
@@ -249,11 +252,11 @@ length-below order s at end l h e =
     w
 
 -- it looks at no byte outside its part
-pub length-part : (order : RunTimeEndian) (s t : List ℕ) (at end : ℕ) → slice at end s ≡ slice at end t → initialLength order s at end ≡ initialLength order t at end
+pub length-part : LengthsInPart
 unfolding initialLength
 length-part order s t at end e =
-    rw (read-part 4 order s t at end e)
+    rw (read-part 4 order s t at end (omega arith) e)
     (bind-same (readNumber 4 order t at end) _ _ λ first p.
     let (fits, value, next) = read-answered 4 order t at end first p in
-    let wide : readNumber 8 order s (first .next) end ≡ readNumber 8 order t (first .next) end = rw next (read-part 8 order s t (at + 4) end (slice-later 4 s t at end e)) in
+    let wide : readNumber 8 order s (first .next) end ≡ readNumber 8 order t (first .next) end = rw next (read-part 8 order s t (at + 4) end (omega arith) (slice-later 4 s t at end e)) in
     rw wide)

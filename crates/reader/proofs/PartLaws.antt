@@ -6,10 +6,11 @@ use native.Mathlib.Omega.{arith}
 use native.Mathlib.Numerals.{add-one}
 use lib.ListN.{length, take, drop, getD, length-take, length-drop, drop-of-length-le}
 use lib.Seq.{slice, drop-cons, getD-take, take-take, getD-drop, drop-drop, ext-getD}
+use mathlib.Core.Bool.{Bool, true, false}
 use lib.Dec.{leb}
-use borrow.Author.Tests.{leb-true}
+use borrow.Author.Tests.{leb-true, leb-false, le-leb, lt-leb}
 use Rattle.reader.specs.Outcome.{Outcome, answered, refused, _>>=_}
-use Rattle.reader.specs.Parts.{leftAt, skipped, Cut, cut}
+use Rattle.reader.specs.Parts.{partEnd, leftAt, skipped, Cut, cut}
 use Rattle.reader.proofs.OutcomeLaws.{cond-answered, bind-answered, same-answer}
 
 -- `leftAt` is the length of the list of the part's bytes
@@ -42,22 +43,47 @@ pub slice-later : (n : ℕ) (s t : List ℕ) (at end : ℕ) → slice at end s �
 slice-later n s t at end e = sym (drop-drop n at (take end s)) ∙ ap (drop n) e ∙ drop-drop n at (take end t)
 
 module _ (n : ℕ) (s : List ℕ) (at end : ℕ) where
-  -- a skip is answered exactly where the part has the bytes, and goes past them
-  pub skip-answered : (p : ℕ) → skipped n s at end ≡ answered p → (n ≤ leftAt s at end) × (p ≡ at + n)
+  -- a skip that ends inside the part is answered, and any other is refused
+  pub skip-inside : at + n ≤ partEnd s end → skipped n s at end ≡ answered (at + n)
+  unfolding skipped
+  skip-inside h = rw (le-leb (at + n) (partEnd s end) h)
+
+  pub skip-past : partEnd s end < at + n → skipped n s at end ≡ refused 1 at
+  unfolding skipped
+  skip-past h = rw (lt-leb (at + n) (partEnd s end) h)
+
+  -- what an answered skip says
+  pub skip-answered : (p : ℕ) → skipped n s at end ≡ answered p → (at + n ≤ partEnd s end) × (p ≡ at + n)
   unfolding skipped
   skip-answered p e =
-      let (fits, same) = cond-answered (leb n (leftAt s at end)) _ 1 at p e in
+      let (fits, same) = cond-answered (leb (at + n) (partEnd s end)) _ 1 at p e in
       (leb-true _ _ fits, sym (same-answer same))
 
-  -- a cut is answered exactly where the skip over it is: it begins at its place and has n bytes
-  pub cut-answered : (p : Cut) → cut n s at end ≡ answered p → (n ≤ leftAt s at end) × (p .at ≡ at) × (p .end ≡ at + n)
+  -- what an answered cut says: it begins at its place, has n bytes, and lies inside its part
+  pub cut-answered : (p : Cut) → cut n s at end ≡ answered p → (p .at ≡ at) × (p .end ≡ at + n) × (p .end ≤ partEnd s end)
   unfolding cut
   cut-answered p e =
       let (next, skip, same) = bind-answered (skipped n s at end) _ p e in
       let (fits, place) = skip-answered next skip in
-      (fits, ap (λ c. c .at) (sym (same-answer same)), ap (λ c. c .end) (sym (same-answer same)) ∙ place)
+      let ends : p .end ≡ next = ap (λ c. c .end) (sym (same-answer same)) in
+      (ap (λ c. c .at) (sym (same-answer same)), ends ∙ place, omega arith)
 
--- a skip and a cut look at no byte, only at how many the part has
-pub skip-part : (n : ℕ) (s t : List ℕ) (at end : ℕ) → leftAt s at end ≡ leftAt t at end → skipped n s at end ≡ skipped n t at end
+-- a skip looks at no byte, only at where the part ends
+pub skip-part : (n : ℕ) (s t : List ℕ) (at end : ℕ) → partEnd s end ≡ partEnd t end → skipped n s at end ≡ skipped n t at end
 unfolding skipped
 skip-part n s t at end e = rw e
+
+-- so where at least one byte is skipped, sections with the same bytes in the part are skipped alike
+pub skip-bytes : (n : ℕ) (s t : List ℕ) (at end : ℕ) → 1 ≤ n → slice at end s ≡ slice at end t → skipped n s at end ≡ skipped n t at end
+skip-bytes n s t at end h e = go (leb (at + n) (partEnd s end)) refl
+  where
+    same : leftAt s at end ≡ leftAt t at end
+    same = sym (left-is-length s at end) ∙ ap length e ∙ left-is-length t at end
+
+    go : (b : Bool) → leb (at + n) (partEnd s end) ≡ b → skipped n s at end ≡ skipped n t at end
+    go true f =
+        let inside : at + n ≤ partEnd s end = leb-true _ _ f in
+        skip-inside n s at end inside ∙ sym (skip-inside n t at end (omega (arith, same)))
+    go false f =
+        let past : partEnd s end < at + n = leb-false _ _ f in
+        skip-past n s at end past ∙ sym (skip-past n t at end (omega (arith, same)))

@@ -1,4 +1,5 @@
--- The outcome that each answer of the code stands for. Every field of an answer is in its outcome (proofs/Answers.antt).
+-- The outcome that each answer of the code stands for. Equal outcomes mean equal answers: every field stands in its clause, and
+-- refusals are told apart by number and value (`error-same`).
 use Prim.Native.Nat.{ℕ}
 use Rattle.reader.specs.Outcome.{Outcome, answered}
 use Rattle.reader.specs.Errors.{refusal}

@@ -7,3 +7,4 @@ pub mod Numbers
 pub mod Leb128
 pub mod Strings
 pub mod Answers
+pub mod Sanity

@@ -4,9 +4,9 @@ use mathlib.Core.List.{List, [], _∷_, reverse}
 use mathlib.Core.Bool.{cond}
 use lib.ListN.{take, drop}
 use lib.Seq.{slice}
-use lib.Dec.{leb, ltb, eqb}
+use lib.Dec.{ltb, eqb}
 use Rattle.reader.specs.Outcome.{Outcome, answered, refused, _>>=_}
-use Rattle.reader.specs.Parts.{leftAt}
+use Rattle.reader.specs.Parts.{skipped}
 use Rattle.reader.specs.declared.endianity.RunTimeEndian.{RunTimeEndian}
 use Rattle.reader.specs.declared.endianity.RunTimeEndian.the-variants.{Little, Big}
 use Rattle.reader.specs.declared.common.Format.{Format}
@@ -46,12 +46,11 @@ pub record Read : Type 0 where
   pub value : ℕ
   pub next : ℕ
 
--- the number of n bytes at `at`, and the place past it; refusal 1 at `at` where the part has fewer
+-- the number of n bytes at `at`, and the place past it; refused as the skip over them is
 unfoldable pub readNumber : ℕ → RunTimeEndian → List ℕ → ℕ → ℕ → Outcome Read
-readNumber n order s at end =
-    cond (leb n (leftAt s at end))
-    (answered (record { value = spelled order (take n (slice at end s)); next = at + n }))
-    (refused 1 at)
+readNumber n order s at end = do
+  next ← skipped n s at end
+  answered (record { value = spelled order (take n (slice at end s)); next = next })
 
 -- the byte at `at`: a number of one byte, which both orders spell alike (`one-byte`)
 unfoldable pub readByte : List ℕ → ℕ → ℕ → Outcome Read

@@ -8,17 +8,21 @@ use lib.ListN.{length}
 use lib.Dec.{leb}
 use Rattle.reader.specs.Outcome.{Outcome, answered, refused, _>>=_}
 
+-- where the part ends: at `end`, or with the section
+abbrev pub partEnd : List ℕ → ℕ → ℕ
+partEnd s end = min end (length s)
+
 -- how many bytes the part has from `at` on: the length of `slice at end s` (`left-is-length`)
 abbrev pub leftAt : List ℕ → ℕ → ℕ → ℕ
-leftAt s at end = min end (length s) - at
+leftAt s at end = partEnd s end - at
 
 -- a read that goes from `at` to `next` moves forward by at least one byte and stays inside its part
 abbrev pub Forward : List ℕ → ℕ → ℕ → ℕ → Type 0
-Forward s at end next = (at < next) × (next ≤ min end (length s))
+Forward s at end next = (at < next) × (next ≤ partEnd s end)
 
--- the place past n bytes; refusal 1 at `at` where the part has fewer
+-- the place past n bytes; refusal 1 at `at` where that lies past the part's end
 unfoldable pub skipped : ℕ → List ℕ → ℕ → ℕ → Outcome ℕ
-skipped n s at end = cond (leb n (leftAt s at end)) (answered (at + n)) (refused 1 at)
+skipped n s at end = cond (leb (at + n) (partEnd s end)) (answered (at + n)) (refused 1 at)
 
 -- a part that was cut out of another: its place, and the place where it ends
 pub record Cut : Type 0 where

@@ -4,7 +4,7 @@ use crate::common::NameEntryOffset;
 ghost use mathlib.Core.Path.{_≡_};
 ghost use lib.ListN.{length};
 ghost use lib.Dec.{ltb};
-ghost use Rattle.reader.specs.Errors.{longest};
+ghost use Rattle.reader.specs.Errors.{numberOf, valueOf, longest};
 
 // A refusal (document 01's term), with the one value that it carries.
 pub enum Error {
@@ -36,6 +36,52 @@ pub enum Error {
     SectionTooLong,
     // 14, added. An index, header or cursor does not fit the section.
     DoesNotFit,
+}
+
+impl Error {
+    // Document 01's number of the refusal, 1 to 14.
+    pub fn number(self) -> u8
+        ensures { λ r. ⌜ r ≡ numberOf self ⌝ }
+    {
+        match self {
+            Error::UnexpectedEof(_) => 1,
+            Error::UnknownReservedLength(_) => 2,
+            Error::UnknownVersion(_) => 3,
+            Error::AbbreviationTagZero => 4,
+            Error::AttributeNameZero => 5,
+            Error::AttributeFormZero => 6,
+            Error::BadUnsignedLeb128 => 7,
+            Error::InvalidAbbreviationCode(_) => 8,
+            Error::UnknownForm(_) => 9,
+            Error::NoEntryAtGivenOffset(_) => 10,
+            Error::InvalidNameAttributeIndex(_) => 11,
+            Error::UnsupportedAttributeForm(_) => 12,
+            Error::SectionTooLong => 13,
+            Error::DoesNotFit => 14,
+        }
+    }
+
+    // The one value that the refusal carries, 0 where it carries none.
+    pub fn value(self) -> u64
+        ensures { λ r. ⌜ r ≡ valueOf self ⌝ }
+    {
+        match self {
+            Error::UnexpectedEof(place) => place as u64,
+            Error::UnknownReservedLength(value) => value as u64,
+            Error::UnknownVersion(version) => version as u64,
+            Error::AbbreviationTagZero => 0,
+            Error::AttributeNameZero => 0,
+            Error::AttributeFormZero => 0,
+            Error::BadUnsignedLeb128 => 0,
+            Error::InvalidAbbreviationCode(code) => code,
+            Error::UnknownForm(form) => form as u64,
+            Error::NoEntryAtGivenOffset(offset) => offset.0 as u64,
+            Error::InvalidNameAttributeIndex(value) => value,
+            Error::UnsupportedAttributeForm(form) => form as u64,
+            Error::SectionTooLong => 0,
+            Error::DoesNotFit => 0,
+        }
+    }
 }
 
 // The most bytes that a lent section may have.

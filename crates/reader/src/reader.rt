@@ -11,7 +11,7 @@ ghost use Prim.Native.Nat.{_+_, _*_, _≤_};
 ghost use lib.ListN.{length};
 ghost use Rattle.reader.specs.declared.endianity.RunTimeEndian.{RunTimeEndian};
 ghost use Rattle.reader.specs.Answers.{u8Outcome, u16Outcome, u32Outcome, u64Outcome, wordOutcome, lengthOutcome, skipOutcome, partOutcome};
-ghost use Rattle.reader.specs.Parts.{leftAt, skipped, cut};
+ghost use Rattle.reader.specs.Parts.{partEnd, leftAt, skipped, cut};
 ghost use Rattle.reader.specs.Numbers.{numberAt, readByte, readNumber, wordSize, initialLength};
 
 // A number of 8 bits, and the place past it.
@@ -198,15 +198,19 @@ fn u64_at(order: RunTimeEndian, s: &[u8], at: usize) -> u64
     }
 }
 
-// How many bytes a part that ends at `end` has from `at` on.
-pub(crate) fn left(s: &[u8], at: usize, end: usize) -> usize
+// Where a part ends: at `end`, or with the section.
+fn part_end(s: &[u8], end: usize) -> usize
+    ensures { λ r. ⌜ r ≡ partEnd (now (s .entry)) end ⌝ }
+{
+    if end <= s.len() { end } else { s.len() }
+}
+
+// How many bytes a part has from `at` on.
+fn left(s: &[u8], at: usize, end: usize) -> usize
     ensures { λ r. ⌜ r ≡ leftAt (now (s .entry)) at end ⌝ }
 {
-    if end <= s.len() {
-        if at <= end { end - at } else { 0 }
-    } else {
-        if at <= s.len() { s.len() - at } else { 0 }
-    }
+    let stop = part_end(s, end);
+    if at <= stop { stop - at } else { 0 }
 }
 
 // The byte at `at`.
@@ -333,7 +337,11 @@ pub fn read_initial_length(order: RunTimeEndian, s: &[u8], at: usize, end: usize
 pub fn skip(len: usize, s: &[u8], at: usize, end: usize) -> Skipped
     ensures { λ r. ⌜ skipOutcome r ≡ skipped len (now (s .entry)) at end ⌝ }
 {
-    if len <= left(s, at, end) {
+    let stop = part_end(s, end);
+    if stop < at {
+        return Skipped::Refused(Error::UnexpectedEof(at));
+    }
+    if len <= stop - at {
         Skipped::To(at + len)
     } else {
         Skipped::Refused(Error::UnexpectedEof(at))
