@@ -2,23 +2,21 @@
 use Prim.Native.Nat.{ℕ, zero, suc, _+_, _*_, _-_, _^_, _%_, _/_, _≤_, _<_}
 use mathlib.Core.Path.{_≡_, refl, sym, ap, _∙_}
 use mathlib.Core.List.{List, [], _∷_, _++_}
-use mathlib.Core.Bool.{Bool, true, false, false≢true, true≢false, cond, _&&_, _||_}
-use mathlib.Core.Logic.{_⊎_, inl, inr, ⊎-elim}
+use mathlib.Core.Bool.{Bool, true, false, false≢true, true≢false, cond, _||_}
 use native.Mathlib.Nat.{mul-assoc, mul-comm, mul-add, mul-pos, mul-le-mul-left, pow-succ', pow-le-pow-right, one-le-pow}
 use native.Mathlib.Omega.{arith}
-use native.Mathlib.Numerals.{add-one}
 use lib.ListN.{length, getD}
 use lib.Seq.{slice}
 use lib.Dec.{leb, ltb}
 use borrow.Author.Tests.{le-leb, lt-leb, leb-true, leb-false, lt-ltb, le-ltb, ltb-true, ltb-false}
 use Rattle.reader.specs.Outcome.{Outcome, answered, refused, _>>=_, _>>_, demand, refuseIf}
-use Rattle.reader.specs.Parts.{partEnd, leftAt, Forward}
+use Rattle.reader.specs.Parts.{leftAt}
 use Rattle.reader.specs.Numbers.{Read, readByte}
-use Rattle.reader.specs.Leb128.{numberBytes, complete, base128, Limit, limited, unsignedLimit, u16Limit, beyond, someBeyond, numberOfBytes, leb128, encodedIn, encoded}
+use Rattle.reader.specs.Leb128.{numberBytes, complete, base128, Limit, unsignedLimit, u16Limit, beyond, someBeyond, numberOfBytes, leb128, encodedIn, encoded}
 use Rattle.reader.specs.Sanity.{UnsignedReadsBack, U16ReadsBack, UnsignedBelow, U16Below, Leb128Forward, Leb128InPart}
-use Rattle.reader.proofs.OutcomeLaws.{bind-answered, then-answered, demanded, passed, cond-answered, same-answer, bind-same, bind-assoc}
-use Rattle.reader.proofs.PartLaws.{left-is-length, slice-first, slice-none, slice-later}
-use Rattle.reader.proofs.NumberLaws.{byte-answered, byte-read, byte-missing}
+use Rattle.reader.proofs.OutcomeLaws.{then-answered, demanded, passed, same-answer, bind-same, bind-assoc}
+use Rattle.reader.proofs.PartLaws.{left-is-length, slice-first, slice-none}
+use Rattle.reader.proofs.NumberLaws.{byte-read, byte-missing}
 
 -- the number r, unless a byte of it is beyond the limit or its last byte is missing
 abbrev finished : Bool → Bool → Read → Outcome Read

@@ -3,13 +3,13 @@ use Prim.Native.Nat.{ℕ, zero, suc, _+_, _*_, _-_, _^_, _%_, _/_, _≤_, _<_}
 use mathlib.Core.Path.{_≡_, refl, sym, ap, _∙_}
 use mathlib.Core.List.{List, [], _∷_, _++_, reverse, reverse-append, reverse-reverse, reverse-cons}
 use mathlib.Core.Logic.{_⊎_, inl, inr, ⊎-elim}
-use native.Mathlib.Nat.{mul-assoc, mul-add, mul-comm, pow-succ', mod-add-div}
+use native.Mathlib.Nat.{mul-assoc, mul-add, pow-succ', mod-add-div}
 use native.Mathlib.Omega.{arith}
 use lib.ListN.{length, take, drop, getD, length-take, length-drop, length-reverse, length-append}
 use lib.Seq.{slice, take-add, drop-drop, drop-cons, take-at}
 use lib.Dec.{ltb, eqb}
-use Rattle.reader.specs.Outcome.{Outcome, answered, refused, _>>=_}
-use Rattle.reader.specs.Parts.{partEnd, leftAt, Forward, skipped}
+use Rattle.reader.specs.Outcome.{answered, refused}
+use Rattle.reader.specs.Parts.{partEnd, leftAt, skipped}
 use Rattle.reader.specs.Numbers.{Bytes, none, more, digits, spelled, digitsOf, bytesOf, numberAt, Read, readNumber, readByte, Length, initialLength}
 use Rattle.reader.specs.Sanity.{BytesSpell, SpelledBytes, NumbersReadBack, NumbersBelow, LengthsBelow, NumbersForward, LengthsForward, NumbersInPart, LengthsInPart}
 use Rattle.reader.specs.declared.endianity.RunTimeEndian.{RunTimeEndian}

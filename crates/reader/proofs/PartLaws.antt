@@ -1,15 +1,15 @@
 -- Laws of parts: how many bytes are left, and what a skip or a cut that is answered says.
-use Prim.Native.Nat.{ℕ, zero, suc, _+_, _-_, _≤_, _<_, min}
+use Prim.Native.Nat.{ℕ, suc, _+_, _-_, _≤_, _<_}
 use mathlib.Core.Path.{_≡_, refl, sym, ap, _∙_}
 use mathlib.Core.List.{List, [], _∷_}
 use native.Mathlib.Omega.{arith}
 use native.Mathlib.Numerals.{add-one}
 use lib.ListN.{length, take, drop, getD, length-take, length-drop, drop-of-length-le}
-use lib.Seq.{slice, drop-cons, getD-take, take-take, getD-drop, drop-drop, ext-getD}
+use lib.Seq.{slice, drop-cons, getD-take, getD-drop, drop-drop, ext-getD}
 use mathlib.Core.Bool.{Bool, true, false}
 use lib.Dec.{leb}
 use borrow.Author.Tests.{leb-true, leb-false, le-leb, lt-leb}
-use Rattle.reader.specs.Outcome.{Outcome, answered, refused, _>>=_}
+use Rattle.reader.specs.Outcome.{answered, refused}
 use Rattle.reader.specs.Parts.{partEnd, leftAt, skipped, Cut, cut}
 use Rattle.reader.proofs.OutcomeLaws.{cond-answered, bind-answered, same-answer}
 

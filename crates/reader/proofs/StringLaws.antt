@@ -1,17 +1,17 @@
 -- Laws of the strings of .debug_str.
-use Prim.Native.Nat.{ℕ, zero, suc, _+_, _-_, _≤_, _<_}
+use Prim.Native.Nat.{ℕ, _+_, _-_, _≤_, _<_}
 use mathlib.Core.Path.{_≡_, refl, sym, ap, _∙_}
 use mathlib.Core.List.{List, [], _∷_}
 use mathlib.Core.Bool.{Bool, true, false, cond}
 use native.Mathlib.Omega.{arith}
 use native.Mathlib.Numerals.{add-one}
-use lib.ListN.{length, take, drop, getD, length-drop, drop-of-length-le}
+use lib.ListN.{length, take, drop, getD, drop-of-length-le}
 use lib.Seq.{drop-cons}
 use lib.Dec.{ltb, eqb}
-use borrow.Author.Tests.{ltb-true, eq-eqb, ne-eqb, eqb-true}
-use Rattle.reader.specs.Outcome.{Outcome, answered, refused, _>>=_, _>>_, demand, refuseIf}
+use borrow.Author.Tests.{ltb-true, ne-eqb}
+use Rattle.reader.specs.Outcome.{answered, demand, refuseIf}
 use Rattle.reader.specs.Errors.{longest}
-use Rattle.reader.specs.Parts.{leftAt, skipped}
+use Rattle.reader.specs.Parts.{skipped}
 use Rattle.reader.specs.Strings.{beforeZero, zeroFrom, Text, getStr, textBytes, strBytes}
 use Rattle.reader.proofs.OutcomeLaws.{bind-answered, then-answered, demanded, same-answer}
 use Rattle.reader.proofs.PartLaws.{skip-answered}

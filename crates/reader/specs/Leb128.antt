@@ -2,11 +2,11 @@
 -- so that the last byte of a number is the first below 128.
 use Prim.Native.Nat.{ℕ, zero, suc, _+_, _*_, _%_, _/_}
 use mathlib.Core.List.{List, [], _∷_}
-use mathlib.Core.Bool.{Bool, true, false, cond, _&&_, _||_}
+use mathlib.Core.Bool.{Bool, false, cond, _&&_, _||_}
 use lib.ListN.{length}
 use lib.Seq.{slice}
 use lib.Dec.{leb, ltb}
-use Rattle.reader.specs.Outcome.{Outcome, answered, refused, _>>=_, _>>_, demand, refuseIf}
+use Rattle.reader.specs.Outcome.{Outcome, answered, _>>_, demand, refuseIf}
 use Rattle.reader.specs.Numbers.{Read}
 
 -- the bytes of the number with which a list begins: up to the first below 128, that one included

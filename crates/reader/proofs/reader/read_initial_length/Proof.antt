@@ -1,4 +1,4 @@
--- `reader::reader::read_initial_length` meets its contract: each answer is the definition's, by the calls and the tests that led there.
+-- `reader::reader::read_initial_length` meets its contract: it makes the readings and tests of section 7.4 in the order of the definition.
 -- Assumes nothing.
 use borrow.Author.Needs.{needs}
 use borrow.Author.Tests.{eq-eqb, le-ltb, lt-ltb, ne-eqb}

@@ -1,4 +1,4 @@
--- `reader::reader::read_word` meets its contract: each answer is the definition's, by the calls and the tests that led there.
+-- `reader::reader::read_word` meets its contract: the format says how many bytes the number has.
 -- Assumes nothing.
 use borrow.Author.Needs.{needs}
 use Rattle.reader.specs.Numbers.{readNumber, spelled, digits}

@@ -1,4 +1,4 @@
--- `reader::reader::split` meets its contract: each answer is the definition's, by the calls and the tests that led there.
+-- `reader::reader::split` meets its contract: a cut is answered and refused as the skip over it.
 -- Assumes nothing.
 use borrow.Author.Needs.{needs}
 use Rattle.reader.specs.Parts.{cut}

@@ -1,4 +1,4 @@
--- `reader::reader::u16_at` meets its contract: each answer is the definition's, by the calls and the tests that led there.
+-- `reader::reader::u16_at` meets its contract: the byte order says which load it is.
 -- Assumes nothing.
 use borrow.Author.Needs.{needs}
 use Rattle.reader.specs.Numbers.{numberAt, spelled, digits}

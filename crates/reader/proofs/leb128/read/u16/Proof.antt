@@ -1,4 +1,4 @@
--- `reader::leb128::read::u16` meets its contract: each answer is the definition's, by the calls and the tests that led there.
+-- `reader::leb128::read::u16` meets its contract: two bytes are read as `two-bytes` says, and the third as `u16-third` says.
 -- Assumes nothing.
 use borrow.Author.Needs.{needs}
 use borrow.Author.Tests.{le-ltb, lt-ltb}

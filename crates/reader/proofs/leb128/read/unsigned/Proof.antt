@@ -1,4 +1,4 @@
--- `reader::leb128::read::unsigned` meets its contract: each answer is the definition's, by the calls and the tests that led there.
+-- `reader::leb128::read::unsigned` meets its contract: two bytes are read as `two-bytes` says, and a longer number by `bytewise`.
 -- Assumes nothing.
 use borrow.Author.Needs.{needs}
 use borrow.Author.Tests.{le-ltb, lt-ltb}

@@ -1,4 +1,4 @@
--- `reader::str::DebugStr::get_str` meets its contract: each answer is the definition's, by the calls and the tests that led there.
+-- `reader::str::DebugStr::get_str` meets its contract: it makes the tests of the definition in order, and the zero byte's place gives the length (`text-length`).
 -- Assumes nothing.
 use borrow.Author.Needs.{needs}
 use borrow.Author.Tests.{le-ltb, lt-ltb}
