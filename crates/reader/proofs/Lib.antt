@@ -4,4 +4,5 @@ pub mod ErrorLaws
 pub mod PartLaws
 pub mod NumberLaws
 pub mod Leb128Laws
+pub mod Leb128Limits
 pub mod StringLaws

@@ -10,12 +10,12 @@ use lib.Seq.{slice, take-add, drop-drop, drop-cons, take-at}
 use lib.Dec.{ltb, eqb}
 use Rattle.reader.specs.Outcome.{answered, refused}
 use Rattle.reader.specs.Parts.{partEnd, leftAt, skipped}
-use Rattle.reader.specs.Numbers.{Bytes, none, more, digits, spelled, digitsOf, bytesOf, numberAt, Read, readNumber, readByte, Length, initialLength}
+use Rattle.reader.specs.Numbers.{Bytes, no-bytes, byte-then, digits, spelled, digitsOf, bytesOf, numberAt, Read, readNumber, readByte, Length, initialLength}
 use Rattle.reader.specs.Sanity.{BytesSpell, SpelledBytes, NumbersReadBack, NumbersBelow, LengthsBelow, NumbersForward, LengthsForward, NumbersInPart, LengthsInPart}
 use Rattle.reader.specs.declared.endianity.RunTimeEndian.{RunTimeEndian}
 use Rattle.reader.specs.declared.endianity.RunTimeEndian.the-variants.{Little, Big}
 use Rattle.reader.proofs.OutcomeLaws.{bind-answered, cond-answered, cond-is, same-answer, bind-same}
-use Rattle.reader.proofs.PartLaws.{left-is-length, slice-take, slice-later, skip-inside, skip-past, skip-answered, skip-bytes}
+use Rattle.reader.proofs.PartLaws.{left-is-length, slice-take, slice-after, slice-later, skip-inside, skip-past, skip-answered, skip-bytes}
 
 pub digits-append : (xs ys : List ℕ) → digits (xs ++ ys) ≡ digits xs + 256 ^ length xs * digits ys
 unfolding digits
@@ -139,39 +139,39 @@ digits-of-length (suc n) v = ap suc (digits-of-length n (v / 256))
 
 digits-back : {bs : List ℕ} → Bytes bs → digitsOf (length bs) (digits bs) ≡ bs
 unfolding digits digitsOf
-digits-back none = refl
-digits-back (more {b} {bs} h r) =
+digits-back no-bytes = refl
+digits-back (byte-then {b} {bs} h r) =
     let low : (b + 256 * digits bs) % 256 ≡ b = omega arith in
     let high : (b + 256 * digits bs) / 256 ≡ digits bs = omega arith in
     rw (low, high, digits-back r)
 
 digits-below : {bs : List ℕ} → Bytes bs → digits bs < 256 ^ length bs
 unfolding digits
-digits-below none = omega arith
-digits-below (more {b} {bs} h r) = rw pow-succ' (omega (arith, digits-below r))
+digits-below no-bytes = omega arith
+digits-below (byte-then {b} {bs} h r) = rw pow-succ' (omega (arith, digits-below r))
 
 -- lists of bytes: what a section's own elements say, and the parts of a list
 pub bytes-of : (s : List ℕ) → ((i : ℕ) → getD s i 0 < 256) → Bytes s
-bytes-of [] h = none
-bytes-of (b ∷ bs) h = more (h 0) (bytes-of bs (λ i. h (suc i)))
+bytes-of [] h = no-bytes
+bytes-of (b ∷ bs) h = byte-then (h 0) (bytes-of bs (λ i. h (suc i)))
 
 bytes-append : {xs ys : List ℕ} → Bytes xs → Bytes ys → Bytes (xs ++ ys)
-bytes-append none k = k
-bytes-append (more h r) k = more h (bytes-append r k)
+bytes-append no-bytes k = k
+bytes-append (byte-then h r) k = byte-then h (bytes-append r k)
 
 bytes-reverse : {bs : List ℕ} → Bytes bs → Bytes (reverse bs)
-bytes-reverse none = none
-bytes-reverse (more {b} {bs} h r) = rw (reverse-cons b bs) (bytes-append (bytes-reverse r) (more h none))
+bytes-reverse no-bytes = no-bytes
+bytes-reverse (byte-then {b} {bs} h r) = rw (reverse-cons b bs) (bytes-append (bytes-reverse r) (byte-then h no-bytes))
 
 bytes-take : (n : ℕ) {bs : List ℕ} → Bytes bs → Bytes (take n bs)
-bytes-take zero r = none
-bytes-take (suc n) none = none
-bytes-take (suc n) (more h r) = more h (bytes-take n r)
+bytes-take zero r = no-bytes
+bytes-take (suc n) no-bytes = no-bytes
+bytes-take (suc n) (byte-then h r) = byte-then h (bytes-take n r)
 
 bytes-drop : (n : ℕ) {bs : List ℕ} → Bytes bs → Bytes (drop n bs)
 bytes-drop zero r = r
-bytes-drop (suc n) none = none
-bytes-drop (suc n) (more h r) = bytes-drop n r
+bytes-drop (suc n) no-bytes = no-bytes
+bytes-drop (suc n) (byte-then h r) = bytes-drop n r
 
 spelled-below : (order : RunTimeEndian) {bs : List ℕ} → Bytes bs → spelled order bs < 256 ^ length bs
 unfolding spelled
@@ -211,6 +211,12 @@ read-back order n v s after at end some h e =
     let room : n ≤ leftAt s at end = rw (← left-is-length s at end) (omega arith) in
     let fits : at + n ≤ partEnd s end = omega arith in
     rw (skip-inside n s at end fits, e, take-at (bytesOf order n v) after n (bytes-length order n v), bytes-spell order n v h)
+
+-- in particular where it stands between other bytes
+pub number-written : (order : RunTimeEndian) (n v : ℕ) (before after : List ℕ) → 1 ≤ n → v < 256 ^ n
+    → readNumber n order (before ++ (bytesOf order n v ++ after)) (length before) (length (before ++ (bytesOf order n v ++ after)))
+    ≡ answered (record { value = v; next = length before + n })
+number-written order n v before after some h = read-back order n v (before ++ (bytesOf order n v ++ after)) after (length before) (length (before ++ (bytesOf order n v ++ after))) some h (slice-after before (bytesOf order n v ++ after))
 
 -- an initial length is a number of 4 bytes, or one of 8 after it
 length-cases : (order : RunTimeEndian) (s : List ℕ) (at end : ℕ) (l : Length) → initialLength order s at end ≡ answered l

@@ -1,11 +1,11 @@
 -- Laws of parts: how many bytes are left, and what a skip or a cut that is answered says.
 use Prim.Native.Nat.{ℕ, suc, _+_, _-_, _≤_, _<_}
 use mathlib.Core.Path.{_≡_, refl, sym, ap, _∙_}
-use mathlib.Core.List.{List, [], _∷_}
+use mathlib.Core.List.{List, [], _∷_, _++_}
 use native.Mathlib.Omega.{arith}
 use native.Mathlib.Numerals.{add-one}
 use lib.ListN.{length, take, drop, getD, length-take, length-drop, drop-of-length-le}
-use lib.Seq.{slice, drop-cons, getD-take, getD-drop, drop-drop, ext-getD}
+use lib.Seq.{slice, take-length, drop-append-seam, drop-cons, getD-take, getD-drop, drop-drop, ext-getD}
 use mathlib.Core.Bool.{Bool, true, false}
 use lib.Dec.{leb}
 use borrow.Author.Tests.{leb-true, leb-false, le-leb, lt-leb}
@@ -37,6 +37,10 @@ slice-take n s at end h =
     let j : i < n = omega (arith, length-take n (slice at end s)) in
     let inside : at + i < end = omega arith in
     rw (getD-take n, getD-drop at, getD-take end, getD-take n, getD-drop at)
+
+-- what was written after `before` is the rest of the section
+pub slice-after : (before written : List ℕ) → slice (length before) (length (before ++ written)) (before ++ written) ≡ written
+slice-after before written = rw (take-length (before ++ written)) (drop-append-seam before written)
 
 -- sections with the same bytes of a part from a place on have the same from any later place on
 pub slice-later : (n : ℕ) (s t : List ℕ) (at end : ℕ) → slice at end s ≡ slice at end t → slice (at + n) end s ≡ slice (at + n) end t

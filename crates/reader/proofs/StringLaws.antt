@@ -44,7 +44,7 @@ text-length s start = omega arith
 
 -- what an answered string says: it starts at the offset and lies inside the section, with its zero byte right after it
 pub str-answered : (s : List ℕ) (offset : ℕ) (t : Text) → getStr s offset ≡ answered t
-    → (t .start ≡ 0 + offset) × (t .length ≡ length (beforeZero (drop (t .start) s))) × (t .start + t .length < length s)
+    → (t .start ≡ 0 + offset) × (t .len ≡ length (beforeZero (drop (t .start) s))) × (t .start + t .len < length s)
 unfolding getStr zeroFrom
 str-answered s offset t e =
     let (u, p, q) = then-answered (refuseIf (ltb longest (length s)) 13 0) _ t e in
@@ -52,7 +52,7 @@ str-answered s offset t e =
     let (v, z, w) = then-answered (demand (ltb (start + length (beforeZero (drop start s))) (length s)) 1 start) _ t m in
     let inside : start + length (beforeZero (drop start s)) < length s = ltb-true _ _ (demanded _ 1 start v z) in
     let begins : t .start ≡ start = ap (λ x. x .start) (sym (same-answer w)) in
-    let long : t .length ≡ length (beforeZero (drop start s)) = ap (λ x. x .length) (sym (same-answer w)) in
+    let long : t .len ≡ length (beforeZero (drop start s)) = ap (λ x. x .len) (sym (same-answer w)) in
     (begins ∙ skip-answered offset s 0 (length s) start o .1, rw begins long, omega arith)
 
 before-take : (bs : List ℕ) → take (length (beforeZero bs)) bs ≡ beforeZero bs

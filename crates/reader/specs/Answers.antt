@@ -49,5 +49,5 @@ partOutcome (PartRead.Value p) = answered (record { at = p .at; end = p .end })
 partOutcome (PartRead.Refused e) = refusal e
 
 abbrev pub strOutcome : StrRead → Outcome Text
-strOutcome (StrRead.Value r) = answered (record { start = r .start; length = r .len })
+strOutcome (StrRead.Value r) = answered (record { start = r .start; len = r .len })
 strOutcome (StrRead.Refused e) = refusal e

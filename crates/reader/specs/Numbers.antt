@@ -14,8 +14,8 @@ use Rattle.reader.specs.declared.common.Format.the-variants.{Dwarf32, Dw
 
 -- a list of bytes, as every lent section is: each number is below 256
 pub data Bytes : List ℕ → Type 0 where
-  none : Bytes []
-  more : {b : ℕ} {bs : List ℕ} → b < 256 → Bytes bs → Bytes (b ∷ bs)
+  no-bytes : Bytes []
+  byte-then : {b : ℕ} {bs : List ℕ} → b < 256 → Bytes bs → Bytes (b ∷ bs)
 
 -- the number whose digits in base 256 are the bytes, the lowest first
 unfoldable pub digits : List ℕ → ℕ

@@ -1,5 +1,5 @@
--- What a reader of the definitions may want to be sure of. The laws of proofs/NumberLaws.antt and proofs/Leb128Laws.antt
--- that have these types prove them.
+-- What a reader of the definitions may want to be sure of. The laws of proofs/ that have these types prove them:
+-- NumberLaws.antt, Leb128Laws.antt and Leb128Limits.antt.
 use Prim.Native.Nat.{ℕ, _+_, _^_, _≤_, _<_}
 use mathlib.Core.Path.{_≡_}
 use mathlib.Core.List.{List, _++_}

@@ -20,7 +20,7 @@ zeroFrom s start = start + length (beforeZero (drop start s))
 -- where a string begins, and how many bytes it has
 pub record Text : Type 0 where
   pub start : ℕ
-  pub length : ℕ
+  pub len : ℕ
 
 -- the string at an offset: up to the first zero byte; refusal 1 at its start where there is none, and at 0 where the offset lies past the end
 unfoldable pub getStr : List ℕ → ℕ → Outcome Text
@@ -28,11 +28,11 @@ getStr s offset = do
   refuseIf (ltb longest (length s)) 13 0
   start ← skipped offset s 0 (length s)
   demand (ltb (zeroFrom s start) (length s)) 1 start
-  answered (record { start = start; length = length (beforeZero (drop start s)) })
+  answered (record { start = start; len = length (beforeZero (drop start s)) })
 
 -- the bytes that stand there; none where it is refused
 unfoldable pub textBytes : List ℕ → Outcome Text → List ℕ
-textBytes s (answered t) = take (t .length) (drop (t .start) s)
+textBytes s (answered t) = take (t .len) (drop (t .start) s)
 textBytes s (refused n v) = []
 
 -- the bytes of the string at an offset

@@ -40,6 +40,7 @@ fn fixed(s: &[u8]) {
     halves(s);
     wide(s);
     full(s);
+    word_reads(s);
     offsets(s);
 }
 
@@ -164,19 +165,40 @@ fn full(s: &[u8]) {
     show::u64_read(read_u64(RunTimeEndian::Little, s, 0, 0));
 }
 
-fn offsets(s: &[u8]) {
+fn word_reads(s: &[u8]) {
     case(b"word of Dwarf32 little, at the end of the part");
     show::word_read(read_word(Format::Dwarf32, RunTimeEndian::Little, s, 4, 8));
+    case(b"word of Dwarf32 big, at the end of the part");
+    show::word_read(read_word(Format::Dwarf32, RunTimeEndian::Big, s, 4, 8));
+    case(b"word of Dwarf32 little, one short");
+    show::word_read(read_word(Format::Dwarf32, RunTimeEndian::Little, s, 5, 8));
     case(b"word of Dwarf32 big, one short");
     show::word_read(read_word(Format::Dwarf32, RunTimeEndian::Big, s, 5, 8));
+    case(b"word of Dwarf64 little, at the end of the part");
+    show::word_read(read_word(Format::Dwarf64, RunTimeEndian::Little, s, 0, 8));
     case(b"word of Dwarf64 big, at the end of the part");
     show::word_read(read_word(Format::Dwarf64, RunTimeEndian::Big, s, 0, 8));
     case(b"word of Dwarf64 little, one short");
     show::word_read(read_word(Format::Dwarf64, RunTimeEndian::Little, s, 1, 8));
+    case(b"word of Dwarf64 big, one short");
+    show::word_read(read_word(Format::Dwarf64, RunTimeEndian::Big, s, 1, 8));
+}
+
+fn offsets(s: &[u8]) {
+    case(b"offset of Dwarf32 little, at the end of the part");
+    show::word_read(read_offset(Format::Dwarf32, RunTimeEndian::Little, s, 4, 8));
     case(b"offset of Dwarf32 big, at the end of the part");
     show::word_read(read_offset(Format::Dwarf32, RunTimeEndian::Big, s, 4, 8));
+    case(b"offset of Dwarf32 little, one short");
+    show::word_read(read_offset(Format::Dwarf32, RunTimeEndian::Little, s, 5, 8));
+    case(b"offset of Dwarf32 big, one short");
+    show::word_read(read_offset(Format::Dwarf32, RunTimeEndian::Big, s, 5, 8));
     case(b"offset of Dwarf64 little, at the end of the part");
     show::word_read(read_offset(Format::Dwarf64, RunTimeEndian::Little, s, 0, 8));
+    case(b"offset of Dwarf64 big, at the end of the part");
+    show::word_read(read_offset(Format::Dwarf64, RunTimeEndian::Big, s, 0, 8));
+    case(b"offset of Dwarf64 little, one short");
+    show::word_read(read_offset(Format::Dwarf64, RunTimeEndian::Little, s, 1, 8));
     case(b"offset of Dwarf64 big, one short");
     show::word_read(read_offset(Format::Dwarf64, RunTimeEndian::Big, s, 1, 8));
 }

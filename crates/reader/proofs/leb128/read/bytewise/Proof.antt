@@ -9,7 +9,8 @@ use denote.Ref.{now}
 use borrow.Author.Needs.{needs}
 use borrow.Author.Tests.{le-ltb, lt-ltb}
 use Rattle.reader.specs.Leb128.{leb128, unsignedLimit}
-use Rattle.reader.proofs.Leb128Laws.{leb128From, leb128-whole, byte-before, byte-last, scaled, scaled-start, scaled-more, room-before, room-last}
+use Rattle.reader.proofs.Leb128Laws.{leb128From, leb128-whole, scaled, scaled-start, scaled-more}
+use Rattle.reader.proofs.Leb128Limits.{byte-before, byte-last, room-before, room-last}
 use Rattle.reader.proofs.leb128.read.bytewise.Statement.{statement}
 use Rattle.reader.proofs.leb128.read.bytewise.Tie as tie
 

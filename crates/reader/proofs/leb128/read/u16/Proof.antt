@@ -2,7 +2,7 @@
 -- Assumes nothing.
 use borrow.Author.Needs.{needs}
 use borrow.Author.Tests.{le-ltb, lt-ltb}
-use Rattle.reader.proofs.Leb128Laws.{twoBytes, u16-two, u16-third}
+use Rattle.reader.proofs.Leb128Limits.{twoBytes, u16-two, u16-third}
 use Rattle.reader.proofs.leb128.read.u16.Statement.{statement}
 use Rattle.reader.proofs.leb128.read.u16.Tie as tie
 

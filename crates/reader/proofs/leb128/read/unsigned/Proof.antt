@@ -2,7 +2,7 @@
 -- Assumes nothing.
 use borrow.Author.Needs.{needs}
 use borrow.Author.Tests.{le-ltb, lt-ltb}
-use Rattle.reader.proofs.Leb128Laws.{twoBytes, unsigned-two}
+use Rattle.reader.proofs.Leb128Limits.{twoBytes, unsigned-two}
 use Rattle.reader.proofs.leb128.read.unsigned.Statement.{statement}
 use Rattle.reader.proofs.leb128.read.unsigned.Tie as tie
 
