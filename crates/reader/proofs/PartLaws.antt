@@ -10,7 +10,8 @@ use mathlib.Core.Bool.{Bool, true, false}
 use lib.Dec.{leb}
 use borrow.Author.Tests.{leb-true, leb-false, le-leb, lt-leb}
 use Rattle.reader.specs.Outcome.{answered, refused}
-use Rattle.reader.specs.Parts.{partEnd, leftAt, skipped, Cut, cut}
+use Rattle.reader.specs.Parts.{partEnd, leftAt, skipped, cut}
+use Rattle.reader.specs.Sanity.{CutsInside}
 use Rattle.reader.proofs.OutcomeLaws.{cond-answered, bind-answered, same-answer}
 
 -- `leftAt` is the length of the list of the part's bytes
@@ -63,14 +64,14 @@ module _ (n : ℕ) (s : List ℕ) (at end : ℕ) where
       let (fits, same) = cond-answered (leb (at + n) (partEnd s end)) _ 1 at p e in
       (leb-true _ _ fits, sym (same-answer same))
 
-  -- what an answered cut says: it begins at its place, has n bytes, and lies inside its part
-  pub cut-answered : (p : Cut) → cut n s at end ≡ answered p → (p .at ≡ at) × (p .end ≡ at + n) × (p .end ≤ partEnd s end)
-  unfolding cut
-  cut-answered p e =
-      let (next, skip, same) = bind-answered (skipped n s at end) _ p e in
-      let (fits, place) = skip-answered next skip in
-      let ends : p .end ≡ next = ap (λ c. c .end) (sym (same-answer same)) in
-      (ap (λ c. c .at) (sym (same-answer same)), ends ∙ place, omega arith)
+-- what an answered cut says
+pub cut-answered : CutsInside
+unfolding cut
+cut-answered n s at end p e =
+    let (next, skip, same) = bind-answered (skipped n s at end) _ p e in
+    let (fits, place) = skip-answered n s at end next skip in
+    let ends : p .end ≡ next = ap (λ c. c .end) (sym (same-answer same)) in
+    (ap (λ c. c .at) (sym (same-answer same)), ends ∙ place, omega arith)
 
 -- a skip looks at no byte, only at where the part ends
 pub skip-part : (n : ℕ) (s t : List ℕ) (at end : ℕ) → partEnd s end ≡ partEnd t end → skipped n s at end ≡ skipped n t at end

@@ -13,6 +13,7 @@ use Rattle.reader.specs.Outcome.{answered, demand, refuseIf}
 use Rattle.reader.specs.Errors.{longest}
 use Rattle.reader.specs.Parts.{skipped}
 use Rattle.reader.specs.Strings.{beforeZero, zeroFrom, Text, getStr, textBytes, strBytes}
+use Rattle.reader.specs.Sanity.{StringsEndAtZero}
 use Rattle.reader.proofs.OutcomeLaws.{bind-answered, then-answered, demanded, same-answer}
 use Rattle.reader.proofs.PartLaws.{skip-answered}
 
@@ -65,7 +66,7 @@ before-take (b ∷ bs) = go (eqb b 0) (before-take bs)
     go false e = ap (λ l. b ∷ l) e
 
 -- the bytes of an answered string are those before the first zero byte from its offset on
-pub str-bytes : (s : List ℕ) (offset : ℕ) (t : Text) → getStr s offset ≡ answered t → strBytes s offset ≡ beforeZero (drop offset s)
+pub str-bytes : StringsEndAtZero
 unfolding strBytes textBytes
 str-bytes s offset t e =
     let (start, long, inside) = str-answered s offset t e in

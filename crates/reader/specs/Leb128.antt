@@ -1,5 +1,5 @@
 -- LEB128: DWARF 5, section 7.6, and document 01's limits. Seven bits a byte, the low ones first; bit 7 says that another follows,
--- so that the last byte of a number is the first below 128.
+-- so that the last byte of a number is the first below 128. (The library's `leb` tests "at most" and has nothing to do with LEB128.)
 use Prim.Native.Nat.{ℕ, zero, suc, _+_, _*_, _%_, _/_}
 use mathlib.Core.List.{List, [], _∷_}
 use mathlib.Core.Bool.{Bool, false, cond, _&&_, _||_}

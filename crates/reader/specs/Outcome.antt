@@ -1,4 +1,8 @@
 -- What a call answers, for all crates: a value, or a refusal with document 01's number and the one value that it carries.
+--
+-- What the definitions of all crates take from the library: `ltb a b`, `leb a b` and `eqb a b` test whether a is below b, at most b
+-- and equal to b; `cond t x y` is x where the test t holds, and y where it does not; `take n l`, `drop n l` and `slice m n l` are the
+-- first n elements of a list, those after the first n, and those from m up to n; `getD l n d` is the one at n, or d past the end.
 use Prim.Native.Nat.{ℕ}
 use mathlib.Core.Bool.{Bool, true, false}
 

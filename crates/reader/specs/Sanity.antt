@@ -1,14 +1,15 @@
 -- What a reader of the definitions may want to be sure of. The laws of proofs/ that have these types prove them:
--- NumberLaws.antt, Leb128Laws.antt and Leb128Limits.antt.
+-- NumberLaws.antt, Leb128Laws.antt, Leb128Limits.antt, PartLaws.antt and StringLaws.antt.
 use Prim.Native.Nat.{ℕ, _+_, _^_, _≤_, _<_}
 use mathlib.Core.Path.{_≡_}
 use mathlib.Core.List.{List, _++_}
-use lib.ListN.{length}
+use lib.ListN.{length, drop}
 use lib.Seq.{slice}
 use Rattle.reader.specs.Outcome.{answered}
-use Rattle.reader.specs.Parts.{Forward}
+use Rattle.reader.specs.Parts.{partEnd, Forward, Cut, cut}
 use Rattle.reader.specs.Numbers.{Bytes, spelled, bytesOf, Read, readNumber, Length, initialLength}
 use Rattle.reader.specs.Leb128.{Limit, unsignedLimit, u16Limit, leb128, encoded}
+use Rattle.reader.specs.Strings.{beforeZero, Text, getStr, strBytes}
 use Rattle.reader.specs.declared.endianity.RunTimeEndian.{RunTimeEndian}
 
 -- `bytesOf` and `spelled` are inverse: a number that fits has bytes that spell it, and bytes are those of what they spell
@@ -73,3 +74,11 @@ LengthsInPart = (order : RunTimeEndian) (s t : List ℕ) (at end : ℕ) → slic
 
 abbrev pub Leb128InPart : Type 0
 Leb128InPart = (limit : Limit) (s t : List ℕ) (at end : ℕ) → slice at end s ≡ slice at end t → leb128 limit s at end ≡ leb128 limit t at end
+
+-- a part that is cut out begins at its place, has n bytes, and lies inside the part that it is cut from
+abbrev pub CutsInside : Type 0
+CutsInside = (n : ℕ) (s : List ℕ) (at end : ℕ) (p : Cut) → cut n s at end ≡ answered p → (p .at ≡ at) × (p .end ≡ at + n) × (p .end ≤ partEnd s end)
+
+-- the bytes of an answered string are those before the first zero byte from its offset on
+abbrev pub StringsEndAtZero : Type 0
+StringsEndAtZero = (s : List ℕ) (offset : ℕ) (t : Text) → getStr s offset ≡ answered t → strBytes s offset ≡ beforeZero (drop offset s)
