@@ -86,6 +86,11 @@ pub leb128-whole : (l : Limit) (s : List ℕ) (at end : ℕ) → leb128 l s at e
 unfolding leb128 leb128From numberOfBytes numberFrom
 leb128-whole l s at end = refl
 
+-- where no byte is left, the first one is missing
+pub leb128-none : (l : Limit) (s : List ℕ) (at end : ℕ) → leftAt s at end < 1 → leb128 l s at end ≡ refused 1 at
+unfolding leb128Step
+leb128-none l s at end h = leb128-whole l s at end ∙ leb128-step l 0 s at end ∙ rw (byte-missing s at end (omega arith))
+
 -- a number looks at no byte outside its part
 pub leb128-part : Leb128InPart
 unfolding leb128

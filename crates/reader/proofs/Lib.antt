@@ -6,3 +6,4 @@ pub mod NumberLaws
 pub mod Leb128Laws
 pub mod Leb128Limits
 pub mod StringLaws
+pub mod ListingLaws

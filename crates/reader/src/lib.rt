@@ -38,6 +38,7 @@ pub use reader::U16Read;
 pub use reader::U32Read;
 pub use reader::U64Read;
 pub use reader::WordRead;
+pub use reader::is_empty;
 pub use reader::read_initial_length;
 pub use reader::read_offset;
 pub use reader::read_u8;

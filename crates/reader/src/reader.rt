@@ -9,6 +9,7 @@ use crate::error::Error;
 ghost use mathlib.Core.Path.{_≡_};
 ghost use Prim.Native.Nat.{_+_, _*_, _≤_};
 ghost use lib.ListN.{length};
+ghost use lib.Dec.{eqb};
 ghost use Rattle.reader.specs.declared.endianity.RunTimeEndian.{RunTimeEndian};
 ghost use Rattle.reader.specs.Answers.{u8Outcome, u16Outcome, u32Outcome, u64Outcome, wordOutcome, lengthOutcome, skipOutcome, partOutcome};
 ghost use Rattle.reader.specs.Parts.{partEnd, leftAt, skipped, cut};
@@ -211,6 +212,13 @@ fn left(s: &[u8], at: usize, end: usize) -> usize
 {
     let stop = part_end(s, end);
     if at <= stop { stop - at } else { 0 }
+}
+
+// Whether nothing is left of a part from `at` on.
+pub fn is_empty(s: &[u8], at: usize, end: usize) -> bool
+    ensures { λ r. ⌜ r ≡ eqb (leftAt (now (s .entry)) at end) 0 ⌝ }
+{
+    left(s, at, end) == 0
 }
 
 // The byte at `at`.

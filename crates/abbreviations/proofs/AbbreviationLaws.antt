@@ -1,0 +1,248 @@
+-- Laws of the abbreviation table: pairs and declarations one at a time, with no count of turns, and what each answer tells.
+use Prim.Native.Nat.{ℕ, zero, suc, _+_, _-_, _≤_, _<_}
+use mathlib.Core.Path.{_≡_, refl, sym, ap, _∙_}
+use mathlib.Core.Bool.{Bool, true, false, cond}
+use mathlib.Core.Logic.{_⊎_, inl, inr}
+use mathlib.Core.List.{List, [], _∷_}
+use mathlib.Core.Option.{Option, some, none, Option·none-ne-some, Option·some-injective}
+use native.Mathlib.Omega.{arith}
+use lib.Dec.{eqb}
+use borrow.Author.Tests.{eq-eqb, ne-eqb}
+use Rattle.reader.specs.Outcome.{Outcome, answered, refused, _>>=_, _>>_, demand, refuseIf}
+use Rattle.reader.specs.Parts.{partEnd, leftAt, Forward}
+use Rattle.reader.specs.Numbers.{Read}
+use Rattle.reader.specs.Leb128.{leb128, unsignedLimit, u16Limit}
+use Rattle.reader.specs.Listing.{Listing, ended, broken, item, listed, listing, Advances}
+use Rattle.reader.proofs.OutcomeLaws.{refused-answered, same-answer, bind-answered, then-answered, bind-same, bind-assoc, cond-is}
+use Rattle.reader.proofs.Leb128Laws.{leb128-forward, leb128-none}
+use Rattle.reader.proofs.ListingLaws.{listing-step}
+use Rattle.abbreviations.specs.declared.NameAbbreviation.{NameAbbreviation}
+use Rattle.abbreviations.specs.declared.Abbreviation.{Abbreviation}
+use Rattle.abbreviations.specs.Abbreviations.{Pair, pair, Attributes, before, attributesIn, attributes, attributesEnd, Head, head, Declaration, withAttributes, declaration, table, ending, parsed, find, handed, handedOut, handedOn, found, declared}
+
+-- the test of a pair
+abbrev tested : ℕ → ℕ → Outcome (Unit {0})
+tested name form = cond (eqb name 0) (demand (eqb form 0) 5 0) (refuseIf (eqb form 0) 6 0)
+
+-- a pair moves forward, and stays inside its part
+pub pair-forward : (s : List ℕ) (at end : ℕ) (p : Pair) → pair s at end ≡ answered p → Forward s at end (p .next)
+unfolding pair
+pair-forward s at end p e =
+    let (name, read-name, e₁) = bind-answered (leb128 u16Limit s at end) _ p e in
+    let (form, read-form, e₂) = bind-answered (leb128 u16Limit s (name .next) end) _ p e₁ in
+    let (u, passes, e₃) = then-answered (tested (name .value) (form .value)) _ p e₂ in
+    let past : p .next ≡ form .next = ap (λ q. q .next) (sym (same-answer e₃)) in
+    let (name-ahead, name-inside) = leb128-forward u16Limit s at end name read-name in
+    let (form-ahead, form-inside) = leb128-forward u16Limit s (name .next) end form read-form in
+    (omega arith, omega arith)
+
+-- where no byte is left, a pair is missing
+pub pair-none : (s : List ℕ) (at end : ℕ) → leftAt s at end < 1 → pair s at end ≡ refused 1 at
+unfolding pair
+pair-none s at end h = rw (leb128-none u16Limit s at end h)
+
+-- a pair, and what it says of the pairs after it
+abbrev pub withPair : Outcome Pair → (Pair → Outcome Attributes) → Outcome Attributes
+withPair o more = do
+  p ← o
+  cond (eqb (p .name) 0) (answered (record { list = []; next = p .next })) (do
+    rest ← more p
+    answered (before p rest))
+
+with-same : (o : Outcome Pair) (f g : Pair → Outcome Attributes) → ((p : Pair) → o ≡ answered p → f p ≡ g p) → withPair o f ≡ withPair o g
+with-same (answered p) f g h = rw (h p refl)
+with-same (refused n v) f g h = refl
+
+-- any number of turns that is large enough gives the same
+attributes-turns : (k j : ℕ) (s : List ℕ) (at end : ℕ) → leftAt s at end ≤ k → leftAt s at end ≤ j → attributesIn k s at end ≡ attributesIn j s at end
+unfolding attributesIn
+attributes-turns zero zero s at end hk hj = refl
+attributes-turns zero (suc j) s at end hk hj = rw (pair-none s at end (omega arith))
+attributes-turns (suc k) zero s at end hk hj = rw (pair-none s at end (omega arith))
+attributes-turns (suc k) (suc j) s at end hk hj =
+    with-same (pair s at end) _ _ λ p e.
+    let (ahead, inside) = pair-forward s at end p e in
+    attributes-turns k j s (p .next) end (omega arith) (omega arith)
+
+-- the attributes are those of a pair and of the pairs after it
+pub attributes-step : (s : List ℕ) (at end : ℕ) → attributes s at end ≡ withPair (pair s at end) λ p. attributes s (p .next) end
+unfolding attributes attributesIn
+attributes-step s at end =
+    attributes-turns (leftAt s at end) (suc (leftAt s at end)) s at end (omega arith) (omega arith)
+    ∙ (with-same (pair s at end) _ _ λ p e.
+    let (ahead, inside) = pair-forward s at end p e in
+    attributes-turns (leftAt s at end) (leftAt s (p .next) end) s (p .next) end (omega arith) (omega arith))
+
+-- the place past them, in the order of the code
+pub attributes-end-step : (s : List ℕ) (at end : ℕ) → attributesEnd s at end ≡ (do
+  p ← pair s at end
+  cond (eqb (p .name) 0) (answered (p .next)) (attributesEnd s (p .next) end))
+unfolding attributesEnd
+attributes-end-step s at end = rw (attributes-step s at end) (ends (pair s at end) (λ p. attributes s (p .next) end))
+  where
+    choice : (t : Bool) (p : Pair) (rest : Outcome Attributes)
+        → (cond t (answered (record { list = []; next = p .next })) (rest >>= λ a. answered (before p a)) >>= λ a. answered (a .next))
+        ≡ cond t (answered (p .next)) (rest >>= λ a. answered (a .next))
+    choice true p rest = refl
+    choice false p (answered a) = refl
+    choice false p (refused n v) = refl
+
+    ends : (o : Outcome Pair) (more : Pair → Outcome Attributes)
+        → (withPair o more >>= λ a. answered (a .next)) ≡ (o >>= λ p. cond (eqb (p .name) 0) (answered (p .next)) (more p >>= λ a. answered (a .next)))
+    ends (answered p) more = choice (eqb (p .name) 0) p (more p)
+    ends (refused n v) more = refl
+
+-- they move forward, and stay inside their part
+attributes-forward-in : (k : ℕ) (s : List ℕ) (at end : ℕ) (a : Attributes) → attributesIn k s at end ≡ answered a → Forward s at end (a .next)
+unfolding attributesIn
+attributes-forward-in zero s at end a e = absurd (refused-answered e)
+attributes-forward-in (suc k) s at end a e =
+    let (p, one, rest) = bind-answered (pair s at end) _ a e in
+    let (ahead, inside) = pair-forward s at end p one in
+    chosen p (ahead, inside) (attributes-forward-in k s (p .next) end) (cond-is (eqb (p .name) 0) _ _ (answered a) rest)
+  where
+    chosen : (p : Pair) → Forward s at end (p .next) → ((b : Attributes) → attributesIn k s (p .next) end ≡ answered b → Forward s (p .next) end (b .next))
+        → ((eqb (p .name) 0 ≡ true) × (answered (record { list = []; next = p .next }) ≡ answered a))
+        ⊎ ((eqb (p .name) 0 ≡ false) × ((attributesIn k s (p .next) end >>= λ rest. answered (before p rest)) ≡ answered a))
+        → Forward s at end (a .next)
+    chosen p (ahead, inside) more (inl (last, same)) =
+        let past : a .next ≡ p .next = ap (λ b. b .next) (sym (same-answer same)) in
+        (omega arith, omega arith)
+    chosen p (ahead, inside) more (inr (not-last, on)) =
+        let (rest, read, same) = bind-answered (attributesIn k s (p .next) end) _ a on in
+        let (further, within) = more rest read in
+        let past : a .next ≡ rest .next = ap (λ b. b .next) (sym (same-answer same)) in
+        (omega arith, omega arith)
+
+pub attributes-forward : (s : List ℕ) (at end : ℕ) (a : Attributes) → attributes s at end ≡ answered a → Forward s at end (a .next)
+unfolding attributes
+attributes-forward s at end a e = attributes-forward-in (leftAt s at end) s at end a e
+
+-- the code and the tag move forward, and stay inside their part
+pub head-forward : (s : List ℕ) (at end : ℕ) (h : Head) → head s at end ≡ answered (some h) → Forward s at end (h .next)
+unfolding head
+head-forward s at end h e =
+    let (some-left, e₁) = other (eqb (leftAt s at end) 0) _ e in
+    let (code, read-code, e₂) = bind-answered (leb128 unsignedLimit s at end) _ (some h) e₁ in
+    let (not-zero, e₃) = other (eqb (code .value) 0) _ e₂ in
+    let (tag, read-tag, e₄) = bind-answered (leb128 u16Limit s (code .next) end) _ (some h) e₃ in
+    let (u, passes, e₅) = then-answered (refuseIf (eqb (tag .value) 0) 4 0) _ (some h) e₄ in
+    let past : h .next ≡ tag .next = ap (λ h. h .next) (sym (Option·some-injective _ _ (same-answer e₅))) in
+    let (code-ahead, code-inside) = leb128-forward unsignedLimit s at end code read-code in
+    let (tag-ahead, tag-inside) = leb128-forward u16Limit s (code .next) end tag read-tag in
+    (omega arith, omega arith)
+  where
+    -- the side of a choice that is not none
+    other : (t : Bool) (m : Outcome (Option Head)) → cond t (answered none) m ≡ answered (some h) → (t ≡ false) × (m ≡ answered (some h))
+    other true m e = absurd (Option·none-ne-some _ (same-answer e))
+    other false m e = (refl, e)
+
+-- what an answered declaration says: its attributes are those that its place has, and its place lies ahead
+pub declaration-read : (s : List ℕ) (at end : ℕ) (d : Declaration) → declaration s at end ≡ answered (some d)
+    → (at < d .place) × (attributes s (d .place) end ≡ answered (record { list = d .attributes; next = d .next }))
+unfolding declaration withAttributes
+declaration-read s at end d e =
+    let (o, read-head, rest) = bind-answered (head s at end) _ (some d) e in
+    by-cases o read-head rest
+  where
+    by-cases : (o : Option Head) → head s at end ≡ answered o → withAttributes s end o ≡ answered (some d)
+        → (at < d .place) × (attributes s (d .place) end ≡ answered (record { list = d .attributes; next = d .next }))
+    by-cases none read-head rest = absurd (Option·none-ne-some _ (same-answer rest))
+    by-cases (some h) read-head rest =
+        let (a, read, same) = bind-answered (attributes s (h .next) end) _ (some d) rest in
+        let (ahead, inside) = head-forward s at end h read-head in
+        rw (sym (Option·some-injective _ _ (same-answer same))) (ahead, read)
+
+-- a declaration moves forward, and stays inside its part
+pub declaration-forward : (s : List ℕ) (at end : ℕ) (d : Declaration) → declaration s at end ≡ answered (some d) → Forward s at end (d .next)
+declaration-forward s at end d e =
+    let (ahead, read) = declaration-read s at end d e in
+    let (further, inside) = attributes-forward s (d .place) end _ read in
+    (omega arith, omega arith)
+
+none-there : (s : List ℕ) (at end : ℕ) → eqb (leftAt s at end) 0 ≡ true → declaration s at end ≡ answered none
+unfolding declaration head withAttributes
+none-there s at end e = rw e
+
+-- the table is read forward, and ends with its part
+table-advances : (s : List ℕ) (end : ℕ) → Advances (λ place. declaration s place end) (λ d. d .next) (partEnd s end)
+table-advances s end = record {
+  forward = λ at d e. declaration-forward s at end d e;
+  none-at-stop = λ at h. none-there s at end (eq-eqb (leftAt s at end) 0 (omega arith));
+}
+
+-- the table is a declaration and the table after it
+pub table-step : (s : List ℕ) (at end : ℕ) → table s at end ≡ listed (declaration s at end) λ d. table s (d .next) end
+unfolding table
+table-step s at end = listing-step (λ place. declaration s place end) (λ d. d .next) (partEnd s end) (table-advances s end) at
+
+-- one declaration, in the order of the code: the place past its pairs stands for them
+unfoldable pub withEnd : List ℕ → ℕ → Option Head → Outcome (Option NameAbbreviation)
+withEnd s end none = answered none
+withEnd s end (some h) = do
+  next ← attributesEnd s (h .next) end
+  answered (some (record { code = h .code; tag = h .tag; attributes = h .next; next = next }))
+
+pub declared-step : (s : List ℕ) (at end : ℕ) → declared s at end ≡ (head s at end >>= withEnd s end)
+unfolding declared declaration withAttributes withEnd attributesEnd
+declared-step s at end = by-cases (head s at end)
+  where
+    with-place : (h : Head) (o : Outcome Attributes)
+        → ((o >>= λ a. answered (some (record { code = h .code; tag = h .tag; place = h .next; attributes = a .list; next = a .next }))) >>= λ d. answered (handedOn d))
+        ≡ ((o >>= λ a. answered (a .next)) >>= λ next. answered (some (record { code = h .code; tag = h .tag; attributes = h .next; next = next })))
+    with-place h (answered a) = refl
+    with-place h (refused n v) = refl
+
+    by-cases : (o : Outcome (Option Head)) → ((o >>= withAttributes s end) >>= λ d. answered (handedOn d)) ≡ (o >>= withEnd s end)
+    by-cases (answered none) = refl
+    by-cases (answered (some h)) = with-place h (attributes s (h .next) end)
+    by-cases (refused n v) = refl
+
+-- what reading on says, in the order of the code: a declaration decides, or what follows it does
+abbrev pub decide : {B : Type 0} → Outcome (Option NameAbbreviation) → Outcome B → (NameAbbreviation → Outcome B) → Outcome B
+decide (answered none) last more = last
+decide (answered (some d)) last more = more d
+decide (refused n v) last more = refused n v
+
+-- the whole table is read by a declaration and the table after it
+pub parsed-step : (s : List ℕ) (at end : ℕ) → parsed s at end ≡ decide (declared s at end) (answered tt) λ d. parsed s (d .next) end
+unfolding parsed declared ending
+parsed-step s at end = rw (table-step s at end) (by-cases (declaration s at end))
+  where
+    by-cases : (o : Outcome (Option Declaration))
+        → ending (listed o λ d. table s (d .next) end) ≡ decide (o >>= λ d. answered (handedOn d)) (answered tt) λ d. ending (table s (d .next) end)
+    by-cases (answered none) = refl
+    by-cases (answered (some d)) = refl
+    by-cases (refused n v) = refl
+
+-- the search is answered by a declaration or by the table after it
+pub found-step : (code : ℕ) (s : List ℕ) (at end : ℕ)
+    → found code s at end ≡ decide (declared s at end) (answered Abbreviation.NotFound) λ d. cond (eqb (d .code) code) (answered (Abbreviation.Found d)) (found code s (d .next) end)
+unfolding found declared find
+found-step code s at end = rw (table-step s at end) (by-cases (declaration s at end))
+  where
+    chosen : (t : Bool) (d : Declaration) (rest : Outcome (Option Declaration))
+        → (cond t (answered (some d)) rest >>= λ o. answered (handedOut o)) ≡ cond t (answered (Abbreviation.Found (handed d))) (rest >>= λ o. answered (handedOut o))
+    chosen true d rest = refl
+    chosen false d rest = refl
+
+    by-cases : (o : Outcome (Option Declaration))
+        → (find code (listed o λ d. table s (d .next) end) >>= λ o. answered (handedOut o))
+        ≡ decide (o >>= λ d. answered (handedOn d)) (answered Abbreviation.NotFound) λ d. cond (eqb (d .code) code) (answered (Abbreviation.Found d)) (find code (table s (d .next) end) >>= λ o. answered (handedOut o))
+    by-cases (answered none) = refl
+    by-cases (answered (some d)) = chosen (eqb (d .code) code) d (find code (table s (d .next) end))
+    by-cases (refused n v) = refl
+
+-- a declaration that was handed on moves forward, and stays inside its part
+pub declared-forward : (s : List ℕ) (at end : ℕ) (d : NameAbbreviation) → declared s at end ≡ answered (some d) → Forward s at end (d .next)
+unfolding declared
+declared-forward s at end d e =
+    let (o, read, same) = bind-answered (declaration s at end) _ (some d) e in
+    whole o read (same-answer same)
+  where
+    whole : (o : Option Declaration) → declaration s at end ≡ answered o → handedOn o ≡ some d → Forward s at end (d .next)
+    whole none read same = absurd (Option·none-ne-some _ same)
+    whole (some f) read same =
+        let (ahead, inside) = declaration-forward s at end f read in
+        let past : d .next ≡ f .next = ap (λ a. a .next) (sym (Option·some-injective _ _ same)) in
+        (omega arith, omega arith)

@@ -1,0 +1,202 @@
+// The abbreviation table of a name index (gimli's `NameAbbreviations`; document 01, "Abbreviations"; DWARF 5, section
+// 6.1.1.4.7): declarations one after another, each a code, a tag and pairs of name and form.
+//
+// gimli keeps the declarations in a `Vec`; here they are read again from the bytes at each call. A table is a part of the section,
+// from a place `at` up to `end`, as everywhere in `reader`: any numbers are legal arguments.
+ghost use mathlib.Core.Path.{_≡_};
+ghost use Rattle.reader.specs.Answers.{skipOutcome};
+ghost use Rattle.abbreviations.specs.Answers.{attributeOutcome, headOutcome, declarationOutcome, tableOutcome, abbreviationOutcome};
+ghost use Rattle.abbreviations.specs.Abbreviations.{pair, attributesEnd, head, declared, parsed, found};
+use reader::Error;
+use reader::Skipped;
+use reader::U16Read;
+use reader::U64Read;
+use reader::is_empty;
+
+// A pair of name and form, and the place past it. Name and form are both 0 in the pair that closes a declaration, and both not
+// 0 in every other.
+pub struct ReadAttribute {
+    pub name: u16,
+    pub form: u16,
+    pub next: usize,
+}
+
+pub enum AttributeRead {
+    Value(ReadAttribute),
+    Refused(Error),
+}
+
+// The code and the tag of a declaration, and the place past them.
+pub struct Head {
+    pub code: u64,
+    pub tag: u16,
+    pub next: usize,
+}
+
+pub enum HeadRead {
+    Value(Head),
+    End,
+    Refused(Error),
+}
+
+// A declaration: its code, its tag, the place of its pairs of name and form, and the place past them.
+pub struct NameAbbreviation {
+    pub code: u64,
+    pub tag: u16,
+    pub attributes: usize,
+    pub next: usize,
+}
+
+// A declaration, or the end of the table.
+pub enum DeclarationRead {
+    Value(NameAbbreviation),
+    End,
+    Refused(Error),
+}
+
+// The whole table was read.
+pub enum TableRead {
+    Whole,
+    Refused(Error),
+}
+
+// What a search by code found.
+pub enum Abbreviation {
+    Found(NameAbbreviation),
+    NotFound,
+}
+
+pub enum AbbreviationRead {
+    Value(Abbreviation),
+    Refused(Error),
+}
+
+// The pair of name and form at `at`: (0, f) is refused with 5 and (n, 0) with 6.
+pub fn read_attribute(s: &[u8], at: usize, end: usize) -> AttributeRead
+    ensures { λ r. ⌜ attributeOutcome r ≡ pair (now (s .entry)) at end ⌝ }
+{
+    let name = match reader::leb128::read::u16(s, at, end) {
+        U16Read::Value(r) => r,
+        U16Read::Refused(e) => return AttributeRead::Refused(e),
+    };
+    let form = match reader::leb128::read::u16(s, name.next, end) {
+        U16Read::Value(r) => r,
+        U16Read::Refused(e) => return AttributeRead::Refused(e),
+    };
+    let pair = ReadAttribute {
+        name: name.value,
+        form: form.value,
+        next: form.next,
+    };
+    if pair.name == 0 {
+        if pair.form == 0 {
+            return AttributeRead::Value(pair);
+        }
+        return AttributeRead::Refused(Error::AttributeNameZero);
+    }
+    if pair.form == 0 {
+        return AttributeRead::Refused(Error::AttributeFormZero);
+    }
+    AttributeRead::Value(pair)
+}
+
+// Passes over the pairs of a declaration, the closing (0, 0) included.
+fn skip_attributes(s: &[u8], at: usize, end: usize) -> Skipped
+    ensures { λ r. ⌜ skipOutcome r ≡ attributesEnd (now (s .entry)) at end ⌝ }
+{
+    let mut place = at;
+    loop {
+        let a = match read_attribute(s, place, end) {
+            AttributeRead::Value(r) => r,
+            AttributeRead::Refused(e) => return Skipped::Refused(e),
+        };
+        if a.name == 0 {
+            return Skipped::To(a.next);
+        }
+        place = a.next;
+    }
+}
+
+// The code and the tag of the declaration at `at`. The table ends at the end of its part, and at code 0.
+fn read_head(s: &[u8], at: usize, end: usize) -> HeadRead
+    ensures { λ r. ⌜ headOutcome r ≡ head (now (s .entry)) at end ⌝ }
+{
+    if is_empty(s, at, end) {
+        return HeadRead::End;
+    }
+    let code = match reader::leb128::read::unsigned(s, at, end) {
+        U64Read::Value(r) => r,
+        U64Read::Refused(e) => return HeadRead::Refused(e),
+    };
+    if code.value == 0 {
+        return HeadRead::End;
+    }
+    let tag = match reader::leb128::read::u16(s, code.next, end) {
+        U16Read::Value(r) => r,
+        U16Read::Refused(e) => return HeadRead::Refused(e),
+    };
+    if tag.value == 0 {
+        return HeadRead::Refused(Error::AbbreviationTagZero);
+    }
+    HeadRead::Value(Head {
+        code: code.value,
+        tag: tag.value,
+        next: tag.next,
+    })
+}
+
+// The declaration at `at`, or the end of the table.
+pub fn read_declaration(s: &[u8], at: usize, end: usize) -> DeclarationRead
+    ensures { λ r. ⌜ declarationOutcome r ≡ declared (now (s .entry)) at end ⌝ }
+{
+    let head = match read_head(s, at, end) {
+        HeadRead::Value(h) => h,
+        HeadRead::End => return DeclarationRead::End,
+        HeadRead::Refused(e) => return DeclarationRead::Refused(e),
+    };
+    match skip_attributes(s, head.next, end) {
+        Skipped::To(next) => DeclarationRead::Value(NameAbbreviation {
+            code: head.code,
+            tag: head.tag,
+            attributes: head.next,
+            next: next,
+        }),
+        Skipped::Refused(e) => DeclarationRead::Refused(e),
+    }
+}
+
+// Reads the whole table, and refuses as the first bad declaration does (gimli's `NameAbbreviations::parse`).
+pub fn parse(s: &[u8], at: usize, end: usize) -> TableRead
+    ensures { λ r. ⌜ tableOutcome r ≡ parsed (now (s .entry)) at end ⌝ }
+{
+    let mut place = at;
+    loop {
+        match read_declaration(s, place, end) {
+            DeclarationRead::Value(d) => {
+                place = d.next;
+            }
+            DeclarationRead::End => return TableRead::Whole,
+            DeclarationRead::Refused(e) => return TableRead::Refused(e),
+        }
+    }
+}
+
+// The first declaration with a code (gimli's `NameAbbreviations::get`). In a table that was never read whole, a bad declaration
+// that is met before the wanted one ends, that one included, gives its own refusal.
+pub fn get(s: &[u8], at: usize, end: usize, code: u64) -> AbbreviationRead
+    ensures { λ r. ⌜ abbreviationOutcome r ≡ found code (now (s .entry)) at end ⌝ }
+{
+    let mut place = at;
+    loop {
+        match read_declaration(s, place, end) {
+            DeclarationRead::Value(d) => {
+                if d.code == code {
+                    return AbbreviationRead::Value(Abbreviation::Found(d));
+                }
+                place = d.next;
+            }
+            DeclarationRead::End => return AbbreviationRead::Value(Abbreviation::NotFound),
+            DeclarationRead::Refused(e) => return AbbreviationRead::Refused(e),
+        }
+    }
+}

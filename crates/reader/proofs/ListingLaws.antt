@@ -1,0 +1,33 @@
+-- Laws of listings: what stands first, and what follows it, with no count of turns.
+use Prim.Native.Nat.{ℕ, zero, suc, _+_, _-_, _≤_, _<_}
+use mathlib.Core.Path.{_≡_, refl, sym, _∙_, ap}
+use mathlib.Core.Option.{Option, some, none}
+use native.Mathlib.Omega.{arith}
+use Rattle.reader.specs.Outcome.{Outcome, answered, refused}
+use Rattle.reader.specs.Listing.{Listing, ended, broken, item, listed, listing, Advances}
+
+-- listings that begin with the same reading and go on in the same way are the same
+pub listed-same : {A : Type 0} (o : Outcome (Option A)) (f g : A → Listing A) → ((a : A) → o ≡ answered (some a) → f a ≡ g a) → listed o f ≡ listed o g
+listed-same (answered none) f g h = refl
+listed-same (answered (some a)) f g h = ap (item a) (h a refl)
+listed-same (refused n v) f g h = refl
+
+module _ {A : Type 0} (read : ℕ → Outcome (Option A)) (past : A → ℕ) (stop : ℕ) (moves : Advances read past stop) where
+  -- any number of turns that is large enough gives the same
+  pub listing-turns : (k j at : ℕ) → stop ≤ at + k → stop ≤ at + j → listing read past k at ≡ listing read past j at
+  unfolding listing
+  listing-turns zero zero at hk hj = refl
+  listing-turns zero (suc j) at hk hj = rw (moves .none-at-stop at (omega arith))
+  listing-turns (suc k) zero at hk hj = rw (moves .none-at-stop at (omega arith))
+  listing-turns (suc k) (suc j) at hk hj = listed-same (read at) _ _ λ a e.
+      let (ahead, inside) = moves .forward at a e in
+      listing-turns k j (past a) (omega arith) (omega arith)
+
+  -- what stands at `at`, and what stands past it
+  pub listing-step : (at : ℕ) → listing read past (stop - at) at ≡ listed (read at) λ a. listing read past (stop - past a) (past a)
+  unfolding listing
+  listing-step at =
+      listing-turns (stop - at) (suc (stop - at)) at (omega arith) (omega arith)
+      ∙ listed-same (read at) _ _ λ a e.
+      let (ahead, inside) = moves .forward at a e in
+      listing-turns (stop - at) (stop - past a) (past a) (omega arith) (omega arith)

@@ -1,0 +1,22 @@
+-- Steps of a cursor: document 01, "Each step takes a cursor and hands back the cursor after it".
+use Prim.Native.Nat.{ℕ}
+use mathlib.Core.Path.{_≡_}
+use mathlib.Core.List.{List, [], _∷_}
+use mathlib.Core.Option.{Option}
+use Rattle.reader.specs.Outcome.{Outcome, answered, refused}
+
+-- what a step answers, none at the end, and the cursor after it
+pub record Step (A C : Type 0) : Type 0 where
+  pub answer : Outcome (Option A)
+  pub cursor : C
+
+-- a step whose tests refuse leaves the cursor as it was
+abbrev pub keeping : {A C : Type 0} → C → Outcome (Step A C) → Step A C
+keeping c (answered t) = t
+keeping c (refused n v) = record { answer = refused n v; cursor = c }
+
+-- A list of the code's own answers that are linked: each is what the step says of a cursor, the first of the cursor c, and each
+-- next of the cursor that the one before it handed back. `stepOf` is the step that an answer of the code stands for.
+pub data Linked {R A C : Type 0} (stepOf : R → Step A C) (step : C → Step A C) : C → List R → Type 0 where
+  no-steps : {c : C} → Linked stepOf step c []
+  step-then : {c : C} {r : R} {rs : List R} → stepOf r ≡ step c → Linked stepOf step (stepOf r .cursor) rs → Linked stepOf step c (r ∷ rs)
