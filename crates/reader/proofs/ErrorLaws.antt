@@ -1,9 +1,10 @@
 -- Refusals are told apart by document 01's number and value: no outcome drops what a refusal says.
-use Prim.Native.Nat.{ℕ}
+use Prim.Native.Nat.{ℕ, _≤_}
 use mathlib.Core.Path.{_≡_, refl, sym, ap₂, _∙_}
 use mathlib.Core.Bool.{cond}
+use native.Mathlib.Omega.{arith}
 use lib.Dec.{eqb}
-use Rattle.reader.specs.Errors.{numberOf, valueOf}
+use Rattle.reader.specs.Errors.{numberOf, valueOf, longest}
 use Rattle.reader.specs.declared.error.Error.{Error}
 use Rattle.reader.specs.declared.error.Error.the-variants.{UnexpectedEof, UnknownReservedLength, UnknownVersion, AbbreviationTagZero, AttributeNameZero, AttributeFormZero, BadUnsignedLeb128, InvalidAbbreviationCode, UnknownForm, NoEntryAtGivenOffset, InvalidNameAttributeIndex, UnsupportedAttributeForm, SectionTooLong, DoesNotFit}
 
@@ -43,3 +44,8 @@ error-back DoesNotFit = refl
 
 pub error-same : (d e : Error) → numberOf d ≡ numberOf e → valueOf d ≡ valueOf e → d ≡ e
 error-same d e n v = sym (error-back d) ∙ ap₂ errorOf n v ∙ error-back e
+
+-- the limit of refusal 13 leaves room for sums of sizes in 64 bits
+pub longest-most : longest ≤ 17179869184
+unfolding longest
+longest-most = omega arith

@@ -1,0 +1,7 @@
+-- What each call of the crate answers. Counts, Units, Names and Declarations follow the files of src/. Answers: the outcome of each
+-- answer.
+pub mod Counts
+pub mod Units
+pub mod Names
+pub mod Declarations
+pub mod Answers
