@@ -5,10 +5,15 @@ use mathlib.Core.Bool.{Bool, true, false, cond}
 use mathlib.Core.List.{List, [], _∷_}
 use native.Mathlib.Omega.{arith}
 use lib.ListN.{length, getD}
-use lib.Dec.{eqb}
+use lib.Dec.{eqb, ltb}
+use borrow.Author.Tests.{ltb-false, le-ltb}
+use Rattle.reader.specs.Outcome.{answered, refuseIf}
+use Rattle.reader.specs.Errors.{longest}
+use Rattle.reader.proofs.OutcomeLaws.{then-answered, passed, same-answer}
 use Rattle.reader.specs.declared.common.Format.{Format}
 use Rattle.reader.specs.declared.common.Format.the-variants.{Dwarf32, Dwarf64}
 use Rattle.index.specs.declared.layout.NameIndex.{NameIndex}
+use Rattle.index.specs.declared.layout.Parts.{Parts}
 use Rattle.index.specs.Layout.{wordBytes, hashBytes, sizes, placesFrom, place, parts, Fits, fitted}
 
 -- a word has at least four bytes, and at most eight
@@ -35,3 +40,22 @@ hashes-most buckets names = chosen (eqb buckets 0)
 pub pool-past : (i : NameIndex) → i .begin ≤ parts i .«entry_pool»
 unfolding parts place placesFrom sizes
 pool-past i = omega arith
+
+-- what an answered `fitted` says: the section is not too long, the index fits, and these are its parts
+pub fitted-answered : (s : List ℕ) (i : NameIndex) (p : Parts) → fitted s i ≡ answered p → (length s ≤ longest) × Fits s i × (p ≡ parts i)
+unfolding fitted
+fitted-answered s i p e =
+    let (u, short, e₁) = then-answered (refuseIf (ltb longest (length s)) 13 0) _ p e in
+    let (v, ends, e₂) = then-answered (refuseIf (ltb (length s) (i .end)) 14 0) _ p e₁ in
+    let (w, pool, e₃) = then-answered (refuseIf (ltb (i .end) (parts i .«entry_pool»)) 14 0) _ p e₂ in
+    (ltb-false _ _ (passed _ 13 0 u short), (ltb-false _ _ (passed _ 14 0 w pool), ltb-false _ _ (passed _ 14 0 v ends)), sym (same-answer e₃))
+
+-- an index that fits has an answer
+pub fitted-fits : (s : List ℕ) (i : NameIndex) → length s ≤ longest → Fits s i → fitted s i ≡ answered (parts i)
+unfolding fitted
+fitted-fits s i short (pool, ends) = rw (le-ltb longest (length s) short, le-ltb (length s) (i .end) ends, le-ltb (i .end) (parts i .«entry_pool») pool)
+
+-- the type units of an index that fits have fewer bytes than the section
+pub type-units-inside : (s : List ℕ) (i : NameIndex) → Fits s i → wordBytes (i .format) (i .«local_type_unit_count») + 8 * i .«foreign_type_unit_count» ≤ length s
+unfolding parts place placesFrom sizes
+type-units-inside s i (pool, ends) = omega arith

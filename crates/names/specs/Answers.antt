@@ -5,7 +5,6 @@ use mathlib.Core.Option.{Option, some, none}
 use Rattle.reader.specs.Outcome.{Outcome, answered, refused}
 use Rattle.reader.specs.Errors.{refusal}
 use Rattle.reader.specs.Steps.{Step}
-use Rattle.reader.specs.declared.reader.WordRead.{WordRead}
 use Rattle.reader.specs.declared.common.DebugInfoOffset.{DebugInfoOffset}
 use Rattle.reader.specs.declared.common.DebugStrOffset.{DebugStrOffset}
 use Rattle.reader.specs.declared.common.DebugTypeSignature.{DebugTypeSignature}
@@ -18,9 +17,9 @@ use Rattle.names.specs.declared.units.NameTypeUnit.{NameTypeUnit}
 use Rattle.names.specs.declared.units.TypeUnitRead.{TypeUnitRead}
 use Rattle.names.specs.declared.units.DefaultUnit.{DefaultUnit}
 use Rattle.names.specs.declared.units.DefaultUnitRead.{DefaultUnitRead}
-use Rattle.names.specs.declared.names.NameTableIter.{NameTableIter}
-use Rattle.names.specs.declared.names.NameTableStep.{NameTableStep}
-use Rattle.names.specs.declared.names.StrOffsetRead.{StrOffsetRead}
+use Rattle.names.specs.declared.table.NameTableIter.{NameTableIter}
+use Rattle.names.specs.declared.table.NameTableStep.{NameTableStep}
+use Rattle.names.specs.declared.table.StrOffsetRead.{StrOffsetRead}
 
 abbrev pub countOutcome : CountRead → Outcome ℕ
 countOutcome (CountRead.Value n) = answered n
@@ -29,11 +28,6 @@ countOutcome (CountRead.Refused e) = refusal e
 abbrev pub flagOutcome : FlagRead → Outcome Bool
 flagOutcome (FlagRead.Value b) = answered b
 flagOutcome (FlagRead.Refused e) = refusal e
-
--- a word that was read, without the place past it
-abbrev pub numberOutcome : WordRead → Outcome ℕ
-numberOutcome (WordRead.Value r) = answered (r .value)
-numberOutcome (WordRead.Refused e) = refusal e
 
 abbrev pub unitOutcome : UnitRead → Outcome DebugInfoOffset
 unitOutcome (UnitRead.Value u) = answered u

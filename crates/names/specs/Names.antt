@@ -16,7 +16,7 @@ use Rattle.reader.specs.declared.common.DebugStrOffset.{DebugStrOffset}
 use Rattle.reader.specs.declared.common.NameTableIndex.{NameTableIndex}
 use Rattle.index.specs.declared.layout.NameIndex.{NameIndex}
 use Rattle.index.specs.Layout.{fitted}
-use Rattle.names.specs.declared.names.NameTableIter.{NameTableIter}
+use Rattle.names.specs.declared.table.NameTableIter.{NameTableIter}
 use Rattle.names.specs.Units.{nthWord}
 
 -- the cursor before a name, and the one before the first
@@ -43,7 +43,7 @@ unfoldable pub nameStringOffset : RunTimeEndian → List ℕ → NameIndex → N
 nameStringOffset order s i name = do
   p ← fitted s i
   offset ← nthWord (i .format) order s (p .«name_table_data») (p .«entry_offset_data») (name .0)
-  answered (record { 0 = offset })
+  answered (record { 0 = offset .value })
 
 -- the string of a name: 13 for .debug_names, 13 for .debug_str, 14, the string offset, the string
 unfoldable pub nameString : RunTimeEndian → List ℕ → List ℕ → NameIndex → NameTableIndex → Outcome Text

@@ -5,7 +5,7 @@ use mathlib.Core.List.{List}
 use lib.Dec.{ltb, eqb}
 use Rattle.reader.specs.Outcome.{Outcome, answered, refused, _>>=_, _>>_}
 use Rattle.reader.specs.Parts.{skipped}
-use Rattle.reader.specs.Numbers.{readNumber, wordSize}
+use Rattle.reader.specs.Numbers.{Read, readNumber, wordSize}
 use Rattle.reader.specs.declared.endianity.RunTimeEndian.{RunTimeEndian}
 use Rattle.reader.specs.declared.common.Format.{Format}
 use Rattle.reader.specs.declared.common.DebugInfoOffset.{DebugInfoOffset}
@@ -16,23 +16,22 @@ use Rattle.names.specs.declared.units.NameTypeUnit.{NameTypeUnit}
 use Rattle.names.specs.declared.units.DefaultUnit.{DefaultUnit}
 
 -- the word of number k in a list of words from `at` up to `end`: skip, then read
-unfoldable pub nthWord : Format → RunTimeEndian → List ℕ → ℕ → ℕ → ℕ → Outcome ℕ
+unfoldable pub nthWord : Format → RunTimeEndian → List ℕ → ℕ → ℕ → ℕ → Outcome Read
 nthWord format order s at end k = do
   place ← skipped (wordBytes format k) s at end
-  word ← readNumber (wordSize format) order s place end
-  answered (word .value)
+  readNumber (wordSize format) order s place end
 
 unfoldable pub compileUnit : RunTimeEndian → List ℕ → NameIndex → ℕ → Outcome DebugInfoOffset
 compileUnit order s i k = do
   p ← fitted s i
   offset ← nthWord (i .format) order s (p .«compile_unit_list») (p .«local_type_unit_list») k
-  answered (record { 0 = offset })
+  answered (record { 0 = offset .value })
 
 unfoldable pub localTypeUnit : RunTimeEndian → List ℕ → NameIndex → ℕ → Outcome DebugInfoOffset
 localTypeUnit order s i k = do
   p ← fitted s i
   offset ← nthWord (i .format) order s (p .«local_type_unit_list») (p .«foreign_type_unit_list») k
-  answered (record { 0 = offset })
+  answered (record { 0 = offset .value })
 
 -- signatures have 8 bytes in both formats
 unfoldable pub foreignTypeUnit : RunTimeEndian → List ℕ → NameIndex → ℕ → Outcome DebugTypeSignature

@@ -4,7 +4,7 @@
 // gimli's methods are functions here, given the section and the index: 13 and 14 are tested first, in this order.
 pub mod counts; // how many units, buckets and names
 pub mod units; // compile units and type units
-pub mod names; // the names, one after another, and their strings
+pub mod table; // the names, one after another, and their strings
 pub mod declarations; // the abbreviation of a code
 
 pub use counts::CountRead;
@@ -17,13 +17,13 @@ pub use counts::local_type_unit_count;
 pub use counts::name_count;
 pub use counts::type_unit_count;
 pub use declarations::get_abbreviation;
-pub use names::NameTableIter;
-pub use names::NameTableStep;
-pub use names::StrOffsetRead;
-pub use names::name_string;
-pub use names::name_string_offset;
-pub use names::name_string_slice;
-pub use names::names;
+pub use table::NameTableIter;
+pub use table::NameTableStep;
+pub use table::StrOffsetRead;
+pub use table::name_string;
+pub use table::name_string_offset;
+pub use table::name_string_slice;
+pub use table::names;
 pub use units::DefaultUnit;
 pub use units::DefaultUnitRead;
 pub use units::NameTypeUnit;

@@ -3,7 +3,8 @@
 // A unit's number is skipped to and then read: a number equal to the count is refused at the list's end, and a larger one at the
 // list's start.
 ghost use mathlib.Core.Path.{_≡_};
-ghost use Rattle.names.specs.Answers.{numberOutcome, unitOutcome, signatureOutcome, typeUnitOutcome, defaultUnitOutcome};
+ghost use Rattle.reader.specs.Answers.{wordOutcome};
+ghost use Rattle.names.specs.Answers.{unitOutcome, signatureOutcome, typeUnitOutcome, defaultUnitOutcome};
 ghost use Rattle.names.specs.Units.{nthWord, compileUnit, localTypeUnit, foreignTypeUnit, typeUnit, defaultCompileUnit};
 use index::NameIndex;
 use index::PartsRead;
@@ -62,7 +63,7 @@ pub fn nth_word(
     end: usize,
     number: u32,
 ) -> WordRead
-    ensures { λ r. ⌜ numberOutcome r ≡ nthWord format order (now (s .entry)) at end number ⌝ }
+    ensures { λ r. ⌜ wordOutcome r ≡ nthWord format order (now (s .entry)) at end number ⌝ }
 {
     match skip(words(format, number), s, at, end) {
         Skipped::To(place) => read_offset(format, order, s, place, end),
