@@ -7,15 +7,17 @@ use mathlib.Core.List.{List, [], _∷_}
 use mathlib.Core.Option.{Option, some, none, Option·none-ne-some, Option·some-injective}
 use native.Mathlib.Omega.{arith}
 use lib.Dec.{eqb}
+use lib.Seq.{slice}
 use borrow.Author.Tests.{eq-eqb, ne-eqb}
 use Rattle.reader.specs.Outcome.{Outcome, answered, refused, _>>=_, _>>_, demand, refuseIf}
 use Rattle.reader.specs.Parts.{partEnd, leftAt, Forward}
 use Rattle.reader.specs.Numbers.{Read}
 use Rattle.reader.specs.Leb128.{leb128, unsignedLimit, u16Limit}
 use Rattle.reader.specs.Listing.{Listing, ended, broken, item, listed, listing, Advances}
-use Rattle.reader.proofs.OutcomeLaws.{refused-answered, same-answer, bind-answered, then-answered, bind-same, bind-assoc, cond-is}
-use Rattle.reader.proofs.Leb128Laws.{leb128-forward, leb128-none}
-use Rattle.reader.proofs.ListingLaws.{listing-step}
+use Rattle.reader.proofs.OutcomeLaws.{refused-answered, same-answer, bind-answered, then-answered, bind-both, cond-is}
+use Rattle.reader.proofs.PartLaws.{slice-from, slice-left}
+use Rattle.reader.proofs.Leb128Laws.{leb128-forward, leb128-none, leb128-part}
+use Rattle.reader.proofs.ListingLaws.{listing-step, listing-agree}
 use Rattle.abbreviations.specs.declared.NameAbbreviation.{NameAbbreviation}
 use Rattle.abbreviations.specs.declared.Abbreviation.{Abbreviation}
 use Rattle.abbreviations.specs.Abbreviations.{Pair, pair, Attributes, before, attributesIn, attributes, attributesEnd, Head, head, Declaration, withAttributes, declaration, table, ending, parsed, find, handed, handedOut, handedOn, found, declared}
@@ -246,3 +248,58 @@ declared-forward s at end d e =
         let (ahead, inside) = declaration-forward s at end f read in
         let past : d .next ≡ f .next = ap (λ a. a .next) (sym (Option·some-injective _ _ same)) in
         (omega arith, omega arith)
+
+-- the table looks at no byte outside its part: pairs, heads, declarations and so the table are the same in sections with the same
+-- bytes there
+pair-part : (s t : List ℕ) (at end : ℕ) → slice at end s ≡ slice at end t → pair s at end ≡ pair t at end
+unfolding pair
+pair-part s t at end e =
+    bind-both (leb128 u16Limit s at end) (leb128 u16Limit t at end) _ _ (leb128-part u16Limit s t at end e) λ name read.
+    let (ahead, inside) = leb128-forward u16Limit s at end name read in
+    let rest = slice-from s t at (name .next) end (omega arith) e in
+    rw (leb128-part u16Limit s t (name .next) end rest)
+
+attributes-part-in : (k : ℕ) (s t : List ℕ) (at end : ℕ) → slice at end s ≡ slice at end t → attributesIn k s at end ≡ attributesIn k t at end
+unfolding attributesIn
+attributes-part-in zero s t at end e = refl
+attributes-part-in (suc k) s t at end e =
+    (with-same (pair s at end) _ _ λ p read.
+    let (ahead, inside) = pair-forward s at end p read in
+    attributes-part-in k s t (p .next) end (slice-from s t at (p .next) end (omega arith) e))
+    ∙ ap (λ o. withPair o λ p. attributesIn k t (p .next) end) (pair-part s t at end e)
+
+attributes-part : (s t : List ℕ) (at end : ℕ) → slice at end s ≡ slice at end t → attributes s at end ≡ attributes t at end
+unfolding attributes
+attributes-part s t at end e = rw (slice-left s t at end e) (attributes-part-in (leftAt t at end) s t at end e)
+
+head-part : (s t : List ℕ) (at end : ℕ) → slice at end s ≡ slice at end t → head s at end ≡ head t at end
+unfolding head
+head-part s t at end e =
+    rw (slice-left s t at end e)
+    (ap (cond (eqb (leftAt t at end) 0) (answered none))
+    (bind-both (leb128 unsignedLimit s at end) (leb128 unsignedLimit t at end) _ _ (leb128-part unsignedLimit s t at end e) λ code read.
+    let (ahead, inside) = leb128-forward unsignedLimit s at end code read in
+    let rest = slice-from s t at (code .next) end (omega arith) e in
+    rw (leb128-part u16Limit s t (code .next) end rest)))
+
+declaration-part : (s t : List ℕ) (at end : ℕ) → slice at end s ≡ slice at end t → declaration s at end ≡ declaration t at end
+unfolding declaration withAttributes
+declaration-part s t at end e = bind-both (head s at end) (head t at end) _ _ (head-part s t at end e) by-cases
+  where
+    by-cases : (o : Option Head) → head s at end ≡ answered o → withAttributes s end o ≡ withAttributes t end o
+    by-cases none read = refl
+    by-cases (some h) read =
+        let (ahead, inside) = head-forward s at end h read in
+        rw (attributes-part s t (h .next) end (slice-from s t at (h .next) end (omega arith) e))
+
+pub table-part : (s t : List ℕ) (at end : ℕ) → slice at end s ≡ slice at end t → table s at end ≡ table t at end
+unfolding table
+table-part s t at end e =
+    rw (slice-left s t at end e)
+    (listing-agree (λ place. declaration s place end) (λ place. declaration t place end) (λ d. d .next) (leftAt t at end) at
+    (λ place h. declaration-part s t place end (slice-from s t at place end h e))
+    λ place d read. let (ahead, inside) = declaration-forward s place end d read in omega arith)
+
+pub parsed-part : (s t : List ℕ) (at end : ℕ) → slice at end s ≡ slice at end t → parsed s at end ≡ parsed t at end
+unfolding parsed
+parsed-part s t at end e = rw (table-part s t at end e)

@@ -1,5 +1,5 @@
 -- Laws of the layout: how large the parts can be, and that they follow one another.
-use Prim.Native.Nat.{ℕ, zero, suc, _+_, _*_, _≤_, _<_}
+use Prim.Native.Nat.{ℕ, zero, suc, _+_, _-_, _*_, _≤_, _<_}
 use mathlib.Core.Path.{_≡_, refl, sym, ap, _∙_}
 use mathlib.Core.Bool.{Bool, true, false, cond}
 use mathlib.Core.List.{List, [], _∷_}
@@ -14,6 +14,7 @@ use Rattle.reader.specs.declared.common.Format.{Format}
 use Rattle.reader.specs.declared.common.Format.the-variants.{Dwarf32, Dwarf64}
 use Rattle.index.specs.declared.layout.NameIndex.{NameIndex}
 use Rattle.index.specs.declared.layout.Parts.{Parts}
+use Rattle.index.specs.Sanity.{PartsFollow, PartsInside}
 use Rattle.index.specs.Layout.{wordBytes, hashBytes, sizes, placesFrom, place, parts, Fits, fitted}
 
 -- a word has at least four bytes, and at most eight
@@ -59,3 +60,39 @@ fitted-fits s i short (pool, ends) = rw (le-ltb longest (length s) short, le-ltb
 pub type-units-inside : (s : List ℕ) (i : NameIndex) → Fits s i → wordBytes (i .format) (i .«local_type_unit_count») + 8 * i .«foreign_type_unit_count» ≤ length s
 unfolding parts place placesFrom sizes
 type-units-inside s i (pool, ends) = omega arith
+
+-- in a list of places each is the one before it and its size
+places-follow : (ns : List ℕ) (at k : ℕ) → k < length ns → getD (placesFrom at ns) (suc k) 0 ≡ getD (placesFrom at ns) k 0 + getD ns k 0
+unfolding placesFrom
+places-follow [] at k h = absurd (omega arith)
+places-follow (n ∷ []) at zero h = refl
+places-follow (n ∷ m ∷ ns) at zero h = refl
+places-follow (n ∷ ns) at (suc k) h = places-follow ns (at + n) k (omega arith)
+
+pub parts-follow : PartsFollow
+unfolding place sizes placesFrom
+parts-follow i = (refl, λ k h. places-follow (sizes i) (i .begin) k (omega arith))
+
+-- so places ascend
+places-on : (i : NameIndex) (j n : ℕ) → j + n ≤ 8 → place i j ≤ place i (j + n)
+places-on i j zero h =
+    let same : j + 0 ≡ j = omega arith in
+    rw same (omega arith)
+places-on i j (suc n) h =
+    let (first, follow) = parts-follow i in
+    let next : j + suc n ≡ suc (j + n) = omega arith in
+    let before = places-on i j n (omega arith) in
+    rw next (omega (arith, before, follow (j + n) (omega arith)))
+
+pub places-ascend : (i : NameIndex) (j k : ℕ) → j ≤ k → k ≤ 8 → place i j ≤ place i k
+places-ascend i j k h e =
+    let there : j + (k - j) ≡ k = omega arith in
+    rw (sym there) (places-on i j (k - j) (omega arith))
+
+pub parts-inside : PartsInside
+unfolding parts
+parts-inside s i (pool, ends) j k h e =
+    let (first, follow) = parts-follow i in
+    let before : place i 0 ≤ place i j = places-ascend i 0 j (omega arith) (omega arith) in
+    let after : place i k ≤ place i 8 = places-ascend i k 8 e (omega arith) in
+    (omega arith, places-ascend i j k h e, omega arith, ends)

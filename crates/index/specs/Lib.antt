@@ -6,3 +6,4 @@ pub mod Headers
 pub mod Layout
 pub mod Open
 pub mod Answers
+pub mod Sanity

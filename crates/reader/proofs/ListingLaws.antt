@@ -12,6 +12,18 @@ listed-same (answered none) f g h = refl
 listed-same (answered (some a)) f g h = ap (item a) (h a refl)
 listed-same (refused n v) f g h = refl
 
+-- listings by readings that agree from a place on are the same from there on
+pub listing-agree : {A : Type 0} (read other : ℕ → Outcome (Option A)) (past : A → ℕ) (k at : ℕ)
+    → ((place : ℕ) → at ≤ place → read place ≡ other place) → ((place : ℕ) (a : A) → read place ≡ answered (some a) → place ≤ past a)
+    → listing read past k at ≡ listing other past k at
+unfolding listing
+listing-agree read other past zero at same forward = refl
+listing-agree read other past (suc k) at same forward =
+    (listed-same (read at) _ _ λ a e.
+    let ahead : at ≤ past a = forward at a e in
+    listing-agree read other past k (past a) (λ place h. same place (omega arith)) forward)
+    ∙ ap (λ o. listed o λ a. listing other past k (past a)) (same at (omega arith))
+
 module _ {A : Type 0} (read : ℕ → Outcome (Option A)) (past : A → ℕ) (stop : ℕ) (moves : Advances read past stop) where
   -- any number of turns that is large enough gives the same
   pub listing-turns : (k j at : ℕ) → stop ≤ at + k → stop ≤ at + j → listing read past k at ≡ listing read past j at

@@ -1,6 +1,6 @@
 -- Laws of outcomes: what an answered chain says of its lines.
 use Prim.Native.Nat.{ℕ}
-use mathlib.Core.Path.{_≡_, refl}
+use mathlib.Core.Path.{_≡_, refl, ap, _∙_}
 use mathlib.Core.Bool.{Bool, true, false, cond}
 use mathlib.Core.Logic.{_⊎_, inl, inr}
 use native.Mathlib.Omega.{arith}
@@ -45,6 +45,10 @@ cond-answered false m n v a e = absurd (refused-answered e)
 pub bind-same : {A B : Type 0} (m : Outcome A) (f g : A → Outcome B) → ((a : A) → m ≡ answered a → f a ≡ g a) → (m >>= f) ≡ (m >>= g)
 bind-same (answered a) f g h = h a refl
 bind-same (refused n v) f g h = refl
+
+-- the same where the first lines differ and are equal
+pub bind-both : {A B : Type 0} (m k : Outcome A) (f g : A → Outcome B) → m ≡ k → ((a : A) → m ≡ answered a → f a ≡ g a) → (m >>= f) ≡ (k >>= g)
+bind-both m k f g e h = bind-same m f g h ∙ ap (λ o. o >>= g) e
 
 -- a chain of chains is one chain
 pub bind-assoc : {A B C : Type 0} (m : Outcome A) (f : A → Outcome B) (g : B → Outcome C) → ((m >>= f) >>= g) ≡ (m >>= λ a. f a >>= g)

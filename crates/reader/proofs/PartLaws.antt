@@ -1,11 +1,11 @@
 -- Laws of parts: how many bytes are left, and what a skip or a cut that is answered says.
-use Prim.Native.Nat.{ℕ, suc, _+_, _-_, _≤_, _<_}
+use Prim.Native.Nat.{ℕ, zero, suc, _+_, _-_, _≤_, _<_}
 use mathlib.Core.Path.{_≡_, refl, sym, ap, _∙_}
 use mathlib.Core.List.{List, [], _∷_, _++_}
 use native.Mathlib.Omega.{arith}
 use native.Mathlib.Numerals.{add-one}
 use lib.ListN.{length, take, drop, getD, length-take, length-drop, drop-of-length-le}
-use lib.Seq.{slice, take-length, drop-append-seam, drop-cons, getD-take, getD-drop, drop-drop, ext-getD}
+use lib.Seq.{slice, take-length, take-nil, take-take, drop-append-seam, drop-cons, getD-take, getD-drop, drop-drop, ext-getD}
 use mathlib.Core.Bool.{Bool, true, false}
 use lib.Dec.{leb}
 use borrow.Author.Tests.{leb-true, leb-false, le-leb, lt-leb}
@@ -47,6 +47,37 @@ slice-after before written = rw (take-length (before ++ written)) (drop-append-s
 pub slice-later : (n : ℕ) (s t : List ℕ) (at end : ℕ) → slice at end s ≡ slice at end t → slice (at + n) end s ≡ slice (at + n) end t
 slice-later n s t at end e = sym (drop-drop n at (take end s)) ∙ ap (drop n) e ∙ drop-drop n at (take end t)
 
+-- the same from a place that a reading reached
+pub slice-from : (s t : List ℕ) (at next end : ℕ) → at ≤ next → slice at end s ≡ slice at end t → slice next end s ≡ slice next end t
+slice-from s t at next end h e =
+    let place : next ≡ at + (next - at) = omega arith in
+    rw place (slice-later (next - at) s t at end e)
+
+-- a part that ends earlier is the beginning of the part
+drop-take : (m n : ℕ) (l : List ℕ) → drop m (take n l) ≡ take (n - m) (drop m l)
+drop-take zero n l =
+    let same : n - 0 ≡ n = omega arith in
+    rw same
+drop-take (suc m) zero l =
+    let none : 0 - suc m ≡ 0 = omega arith in
+    rw none refl
+drop-take (suc m) (suc n) [] = sym (take-nil (suc n - suc m))
+drop-take (suc m) (suc n) (b ∷ bs) =
+    let same : suc n - suc m ≡ n - m = omega arith in
+    rw same (drop-take m n bs)
+
+slice-take-part : (s : List ℕ) (at stop end : ℕ) → stop ≤ end → slice at stop s ≡ take (stop - at) (slice at end s)
+slice-take-part s at stop end h = ap (drop at) (sym (take-take stop end s h)) ∙ drop-take at stop (take end s)
+
+-- so sections with the same bytes of a part have the same of every part inside it
+pub slice-within : (s t : List ℕ) (at place stop end : ℕ) → at ≤ place → stop ≤ end → slice at end s ≡ slice at end t → slice place stop s ≡ slice place stop t
+slice-within s t at place stop end h k e =
+    slice-take-part s place stop end k ∙ ap (take (stop - place)) (slice-from s t at place end h e) ∙ sym (slice-take-part t place stop end k)
+
+-- sections with the same bytes of a part have the same number of them
+pub slice-left : (s t : List ℕ) (at end : ℕ) → slice at end s ≡ slice at end t → leftAt s at end ≡ leftAt t at end
+slice-left s t at end e = sym (left-is-length s at end) ∙ ap length e ∙ left-is-length t at end
+
 module _ (n : ℕ) (s : List ℕ) (at end : ℕ) where
   -- a skip that ends inside the part is answered, and any other is refused
   pub skip-inside : at + n ≤ partEnd s end → skipped n s at end ≡ answered (at + n)
@@ -83,7 +114,7 @@ pub skip-bytes : (n : ℕ) (s t : List ℕ) (at end : ℕ) → 1 ≤ n → slice
 skip-bytes n s t at end h e = go (leb (at + n) (partEnd s end)) refl
   where
     same : leftAt s at end ≡ leftAt t at end
-    same = sym (left-is-length s at end) ∙ ap length e ∙ left-is-length t at end
+    same = slice-left s t at end e
 
     go : (b : Bool) → leb (at + n) (partEnd s end) ≡ b → skipped n s at end ≡ skipped n t at end
     go true f =

@@ -1,8 +1,8 @@
 -- Steps of a cursor: document 01, "Each step takes a cursor and hands back the cursor after it".
-use Prim.Native.Nat.{ℕ}
 use mathlib.Core.Path.{_≡_}
 use mathlib.Core.List.{List, [], _∷_}
-use mathlib.Core.Option.{Option}
+use mathlib.Core.Bool.{Bool, true, false}
+use mathlib.Core.Option.{Option, some, none}
 use Rattle.reader.specs.Outcome.{Outcome, answered, refused}
 
 -- what a step answers, none at the end, and the cursor after it
@@ -20,3 +20,10 @@ keeping c (refused n v) = record { answer = refused n v; cursor = c }
 pub data Linked {R A C : Type 0} (stepOf : R → Step A C) (step : C → Step A C) : C → List R → Type 0 where
   no-steps : {c : C} → Linked stepOf step c []
   step-then : {c : C} {r : R} {rs : List R} → stepOf r ≡ step c → Linked stepOf step (stepOf r .cursor) rs → Linked stepOf step c (r ∷ rs)
+
+-- whether an end is among the answers
+unfoldable pub hasEnd : {A : Type 0} → List (Outcome (Option A)) → Bool
+hasEnd [] = false
+hasEnd (answered none ∷ os) = true
+hasEnd (answered (some a) ∷ os) = hasEnd os
+hasEnd (refused n v ∷ os) = hasEnd os
