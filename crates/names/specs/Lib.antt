@@ -5,3 +5,4 @@ pub mod Units
 pub mod Names
 pub mod Declarations
 pub mod Answers
+pub mod Sanity
