@@ -77,6 +77,7 @@ augmentation-inside size s at end a h e = chosen (cond-is (eqb size 0) _ _ (answ
       string ← cut size s at end
       next ← skipped (padding size) s (string .end) end
       answered (record { augmentation = Augmentation.Some (record { place = string .at; len = size }); next = next })
+
     chosen : ((eqb size 0 ≡ true) × (answered (record { augmentation = Augmentation.None; next = at }) ≡ answered a)) ⊎ ((eqb size 0 ≡ false) × (rest ≡ answered a)) → a .next ≤ partEnd s end
     chosen (inl (zero-size, same)) =
         let past : a .next ≡ at = ap (λ a. a .next) (sym (same-answer same)) in
@@ -172,6 +173,7 @@ walks-end order s c (r ∷ rs) short fits (step-then is linked) many =
   where
     answers : List (Outcome (Option NameIndexHeader))
     answers = map (λ r. headerStepOf r .answer) rs
+
     first : Moves s c (headerStepOf r)
         → (headerStepOf r .cursor .at ≤ length s → length s - headerStepOf r .cursor .at < length rs → hasEnd answers ≡ true)
         → hasEnd (headerStepOf r .answer ∷ answers) ≡ true

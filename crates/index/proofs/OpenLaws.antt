@@ -112,6 +112,7 @@ opens-in-part s t h short-s short-t ends-s ends-t e = rw (
   where
     rest : List ℕ → Outcome NameIndex
     rest l = partsInside (parts (indexOf h)) >>= λ p. parsed l (p .«abbreviation_table») (p .«entry_pool») >> answered (indexOf h)
+
     ordered : (b : Bool) → ltb (h .content .end) (h .content .at) ≡ b → (refuseIf b 14 0 >> rest s) ≡ (refuseIf b 14 0 >> rest t)
     ordered true f = refl
     ordered false f = bind-same (partsInside (parts (indexOf h))) _ _ λ p cuts.

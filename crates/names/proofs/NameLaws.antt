@@ -99,6 +99,7 @@ steps-from s i (r ∷ rs) k (suc j) short fits enough (step-then is linked) =
   where
     answers : List (Outcome (Option NameTableIndex))
     answers = map (λ r. nameStepOf r .answer) rs
+
     by-cases : (t : Bool) → leb (i .«name_count») k ≡ t → nameStepOf r ≡ stepFrom i k
         → ((n m : ℕ) → length rs ≤ m → nameStepOf r .cursor ≡ before n → answers ≡ take (length rs) (after i n m))
         → nameStepOf r .answer ∷ answers ≡ take (suc (length rs)) (after i k (suc j))

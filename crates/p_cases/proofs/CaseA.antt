@@ -1,0 +1,51 @@
+-- Case A is what document 01 says, by computation.
+use Prim.Native.Nat.{_≤_}
+use mathlib.Core.Path.{refl}
+use native.Mathlib.Omega.{arith}
+use lib.ListN.{length}
+use Rattle.reader.specs.Errors.{longest}
+use Rattle.reader.specs.Parts.{skipped, cut}
+use Rattle.reader.specs.Numbers.{digits, spelled, readNumber, initialLength}
+use Rattle.reader.specs.Leb128.{leb128, numberOfBytes, numberBytes, someBeyond, beyond, complete, base128}
+use Rattle.reader.specs.Strings.{beforeZero, zeroFrom, getStr, textBytes}
+use Rattle.reader.specs.Listing.{listing}
+use Rattle.abbreviations.specs.Abbreviations.{pair, attributesIn, attributes, head, withAttributes, declaration, table, ending, parsed, find, found}
+use Rattle.index.specs.Header.{headerCut, counts, padding, augmentation, headerBody, header}
+use Rattle.index.specs.Layout.{wordBytes, hashBytes, sizes, placesFrom, place, parts, fitted}
+use Rattle.index.specs.Open.{indexOf, passedOver, cutParts, nameIndex}
+use Rattle.names.specs.Units.{nthWord, compileUnit}
+use Rattle.names.specs.Names.{nameStringOffset, nameString, nameStringBytes}
+use Rattle.names.specs.Declarations.{getAbbreviation}
+use Rattle.p_cases.specs.CaseA.{caseA, stringsA, headerA, indexA, partsA, HeaderOfA, OpensA, PartsOfA, FitsA, UnitsOfA, StringsOfA, BytesOfA, AbbreviationsOfA}
+
+pub header-of-a : HeaderOfA
+unfolding caseA headerA header headerCut headerBody counts augmentation initialLength readNumber skipped cut spelled digits
+header-of-a = refl
+
+pub opens-a : OpensA
+unfolding caseA headerA indexA nameIndex indexOf cutParts passedOver parts place placesFrom sizes wordBytes hashBytes skipped longest parsed ending table listing declaration withAttributes head attributes attributesIn pair leb128 numberOfBytes numberBytes someBeyond beyond complete base128
+opens-a = refl
+
+pub parts-of-a : PartsOfA
+unfolding caseA indexA partsA fitted parts place placesFrom sizes wordBytes hashBytes longest
+parts-of-a = refl
+
+pub fits-a : FitsA
+unfolding caseA indexA parts place placesFrom sizes wordBytes hashBytes longest
+fits-a = (omega arith, (omega arith, omega arith))
+
+pub units-of-a : UnitsOfA
+unfolding caseA indexA compileUnit nthWord fitted parts place placesFrom sizes wordBytes hashBytes longest readNumber skipped spelled digits
+units-of-a = refl
+
+pub strings-of-a : StringsOfA
+unfolding caseA stringsA indexA nameString nameStringOffset nthWord fitted parts place placesFrom sizes wordBytes hashBytes longest readNumber skipped spelled digits getStr zeroFrom beforeZero
+strings-of-a = refl
+
+pub bytes-of-a : BytesOfA
+unfolding caseA stringsA indexA nameStringBytes textBytes nameString nameStringOffset nthWord fitted parts place placesFrom sizes wordBytes hashBytes longest readNumber skipped spelled digits getStr zeroFrom beforeZero
+bytes-of-a = refl
+
+pub abbreviations-of-a : AbbreviationsOfA
+unfolding caseA indexA getAbbreviation found find table listing declaration withAttributes head attributes attributesIn pair leb128 numberOfBytes numberBytes someBeyond beyond complete base128 fitted parts place placesFrom sizes wordBytes hashBytes longest
+abbreviations-of-a = refl

@@ -1,0 +1,133 @@
+-- Document 01's case A: its bytes, what the definitions say of its header, its parts, its units, its names and its abbreviations, and
+-- that it fits, so that the theorems which suppose this speak of a real index.
+use Prim.Native.Nat.{ℕ, _≤_}
+use mathlib.Core.Path.{_≡_}
+use mathlib.Core.List.{List, [], _∷_}
+use lib.ListN.{length}
+use Rattle.reader.specs.Outcome.{Outcome, answered, refused}
+use Rattle.reader.specs.Errors.{longest}
+use Rattle.reader.specs.Strings.{Text}
+use Rattle.reader.specs.declared.endianity.RunTimeEndian.{RunTimeEndian}
+use Rattle.reader.specs.declared.common.Format.{Format}
+use Rattle.reader.specs.declared.common.DebugInfoOffset.{DebugInfoOffset}
+use Rattle.reader.specs.declared.common.DebugStrOffset.{DebugStrOffset}
+use Rattle.abbreviations.specs.declared.Abbreviation.{Abbreviation}
+use Rattle.index.specs.declared.header.Augmentation.{Augmentation}
+use Rattle.index.specs.declared.header.NameIndexHeader.{NameIndexHeader}
+use Rattle.index.specs.declared.layout.NameIndex.{NameIndex}
+use Rattle.index.specs.declared.layout.Parts.{Parts}
+use Rattle.index.specs.Header.{header}
+use Rattle.index.specs.Layout.{Fits, fitted}
+use Rattle.index.specs.Open.{nameIndex}
+use Rattle.names.specs.Units.{compileUnit}
+use Rattle.names.specs.Names.{nameStringOffset, nameString, nameStringBytes}
+use Rattle.names.specs.Declarations.{getAbbreviation}
+
+-- the bytes, a line for each sentence of document 01: the length; the version and its padding; C; L; F; B; N; A; the augmentation;
+-- the unit; the starts; the hashes; the strings; the entry offsets; the abbreviations; the pool
+unfoldable pub caseA : List ℕ
+caseA =
+    105 ∷ 0 ∷ 0 ∷ 0
+    ∷ 5 ∷ 0 ∷ 0 ∷ 0
+    ∷ 1 ∷ 0 ∷ 0 ∷ 0
+    ∷ 0 ∷ 0 ∷ 0 ∷ 0
+    ∷ 0 ∷ 0 ∷ 0 ∷ 0
+    ∷ 2 ∷ 0 ∷ 0 ∷ 0
+    ∷ 3 ∷ 0 ∷ 0 ∷ 0
+    ∷ 7 ∷ 0 ∷ 0 ∷ 0
+    ∷ 0 ∷ 0 ∷ 0 ∷ 0
+    ∷ 0 ∷ 0 ∷ 0 ∷ 0
+    ∷ 1 ∷ 0 ∷ 0 ∷ 0 ∷ 2 ∷ 0 ∷ 0 ∷ 0
+    ∷ 4 ∷ 0 ∷ 0 ∷ 0 ∷ 7 ∷ 0 ∷ 0 ∷ 0 ∷ 9 ∷ 0 ∷ 0 ∷ 0
+    ∷ 1 ∷ 0 ∷ 0 ∷ 0 ∷ 5 ∷ 0 ∷ 0 ∷ 0 ∷ 6 ∷ 0 ∷ 0 ∷ 0
+    ∷ 0 ∷ 0 ∷ 0 ∷ 0 ∷ 6 ∷ 0 ∷ 0 ∷ 0 ∷ 12 ∷ 0 ∷ 0 ∷ 0
+    ∷ 0x01 ∷ 0x2e ∷ 0x03 ∷ 0x13 ∷ 0 ∷ 0 ∷ 0
+    ∷ 0x01 ∷ 0x10 ∷ 0 ∷ 0 ∷ 0 ∷ 0 ∷ 0x01 ∷ 0x20 ∷ 0 ∷ 0 ∷ 0 ∷ 0 ∷ 0x01 ∷ 0x30 ∷ 0 ∷ 0 ∷ 0 ∷ 0
+    ∷ []
+
+-- its .debug_str
+unfoldable pub stringsA : List ℕ
+stringsA = 0x00 ∷ 0x61 ∷ 0x62 ∷ 0x63 ∷ 0x00 ∷ 0x64 ∷ 0x65 ∷ 0x00 ∷ []
+
+-- its header
+unfoldable pub headerA : NameIndexHeader
+headerA = record {
+  offset = record { 0 = 0 };
+  length = 105;
+  format = Format.Dwarf32;
+  version = 5;
+  «compile_unit_count» = 1;
+  «local_type_unit_count» = 0;
+  «foreign_type_unit_count» = 0;
+  «bucket_count» = 2;
+  «name_count» = 3;
+  «abbrev_table_size» = 7;
+  «augmentation_string» = Augmentation.None;
+  content = record { at = 36; end = 109 };
+}
+
+-- its index
+unfoldable pub indexA : NameIndex
+indexA = record {
+  format = Format.Dwarf32;
+  «compile_unit_count» = 1;
+  «local_type_unit_count» = 0;
+  «foreign_type_unit_count» = 0;
+  «bucket_count» = 2;
+  «name_count» = 3;
+  «abbrev_table_size» = 7;
+  begin = 36;
+  end = 109;
+}
+
+-- the places of its parts, as document 01 gives them; the two lists of type units are empty
+unfoldable pub partsA : Parts
+partsA = record {
+  «compile_unit_list» = 36;
+  «local_type_unit_list» = 40;
+  «foreign_type_unit_list» = 40;
+  «bucket_data» = 40;
+  «hash_table_data» = 48;
+  «name_table_data» = 60;
+  «entry_offset_data» = 72;
+  «abbreviation_table» = 84;
+  «entry_pool» = 91;
+  end = 109;
+}
+
+abbrev pub HeaderOfA : Type 0
+HeaderOfA = header RunTimeEndian.Little caseA 0 ≡ answered headerA
+
+abbrev pub OpensA : Type 0
+OpensA = nameIndex caseA headerA ≡ answered indexA
+
+abbrev pub PartsOfA : Type 0
+PartsOfA = fitted caseA indexA ≡ answered partsA
+
+-- what `NamesInOrder` and the laws of an index that fits suppose
+abbrev pub FitsA : Type 0
+FitsA = (length caseA ≤ longest) × Fits caseA indexA
+
+-- unit 0 is at 0; 1 is refused at the list's end, and 2 at its start
+abbrev pub UnitsOfA : Type 0
+UnitsOfA =
+    compileUnit RunTimeEndian.Little caseA indexA 0 ∷ compileUnit RunTimeEndian.Little caseA indexA 1 ∷ compileUnit RunTimeEndian.Little caseA indexA 2 ∷ []
+    ≡ answered (record { 0 = 0 }) ∷ refused 1 40 ∷ refused 1 36 ∷ []
+
+-- the names are "abc", "de" and "e"; 3 is refused at the end of the strings, and 4 at their start
+abbrev pub stringOfA : ℕ → Outcome Text
+stringOfA k = nameString RunTimeEndian.Little caseA stringsA indexA (record { 0 = k })
+
+abbrev pub StringsOfA : Type 0
+StringsOfA =
+    stringOfA 0 ∷ stringOfA 1 ∷ stringOfA 2 ∷ stringOfA 3 ∷ stringOfA 4 ∷ []
+    ≡ answered (record { start = 1; len = 3 }) ∷ answered (record { start = 5; len = 2 }) ∷ answered (record { start = 6; len = 1 }) ∷ refused 1 72 ∷ refused 1 60 ∷ []
+
+abbrev pub BytesOfA : Type 0
+BytesOfA = nameStringBytes RunTimeEndian.Little caseA stringsA indexA (record { 0 = 1 }) ≡ 0x64 ∷ 0x65 ∷ []
+
+-- code 1 is declared with tag 0x2e, its pairs at 86; code 2 is not declared
+abbrev pub AbbreviationsOfA : Type 0
+AbbreviationsOfA =
+    getAbbreviation 1 caseA indexA ∷ getAbbreviation 2 caseA indexA ∷ []
+    ≡ answered (Abbreviation.Found (record { code = 1; tag = 0x2e; attributes = 86; next = 90 })) ∷ answered Abbreviation.NotFound ∷ []

@@ -1,0 +1,275 @@
+//! Damaged sections: a valid one with something wrong in it. Some damages are done to the parts, so that all the rest still fits,
+//! and some to the bytes.
+
+use crate::bytes::Writer;
+use crate::case::Case;
+use crate::model::{COUNTS, Count, Index, Section};
+use crate::random::Random;
+
+/// The damages. Those of the abbreviation table stand twice, since they have the most ways to go wrong.
+pub const DAMAGES: [fn(&mut Random, Section) -> Case; 17] = [
+    cut_with_length_kept,
+    cut_with_length_adapted,
+    byte_changed,
+    header_byte_changed,
+    table_byte_changed,
+    count_wrong,
+    count_much_too_large,
+    version_wrong,
+    length_reserved,
+    length_wrong,
+    bad_leb128,
+    bad_leb128,
+    zero_in_the_table,
+    zero_in_the_table,
+    table_cut,
+    string_offset_wrong,
+    strings_without_zero,
+];
+
+/// One of the indexes.
+fn some_index<'a>(random: &mut Random, section: &'a mut Section) -> &'a mut Index {
+    let which = random.below(section.indexes.len());
+    &mut section.indexes[which]
+}
+
+/// Overwrites bytes from a place on.
+fn overwrite(bytes: &mut [u8], place: usize, with: &[u8]) {
+    bytes[place..place + with.len()].copy_from_slice(with);
+}
+
+/// The section is cut anywhere, and no length says so.
+fn cut_with_length_kept(random: &mut Random, section: Section) -> Case {
+    let (mut bytes, _) = section.encode();
+    let len = bytes.len();
+    bytes.truncate(random.below(len));
+    Case::of(&section, bytes)
+}
+
+/// The section is cut anywhere, and the length of the index that is cut is made to fit: a part of the index is missing.
+fn cut_with_length_adapted(random: &mut Random, section: Section) -> Case {
+    let (bytes, starts) = section.encode();
+    let which = random.below(starts.len());
+    let body = starts[which] + section.indexes[which].length_bytes();
+    let end = starts.get(which + 1).copied().unwrap_or(bytes.len());
+    cut_at(&section, which, random.between(body, end - 1))
+}
+
+/// The section cut at a place behind the length field of an index, and that length made to fit.
+fn cut_at(section: &Section, which: usize, place: usize) -> Case {
+    let (mut bytes, starts) = section.encode();
+    let index = &section.indexes[which];
+    let body = starts[which] + index.length_bytes();
+    bytes.truncate(place);
+    let field = index.length_field(section.order, (place - body) as u64);
+    overwrite(&mut bytes, starts[which], &field);
+    Case::of(section, bytes)
+}
+
+/// A section of one index, cut at every byte of it, and whole. Where the cut leaves a length field it is made to fit.
+pub fn cut_everywhere(section: &Section) -> Vec<Case> {
+    let (bytes, _) = section.encode();
+    let body = section.indexes[0].length_bytes();
+    let cut = |place: usize| match place < body {
+        true => Case::of(section, bytes[..place].to_vec()),
+        false => cut_at(section, 0, place),
+    };
+    (0..=bytes.len()).map(cut).collect()
+}
+
+/// Any byte is another one.
+fn byte_changed(random: &mut Random, section: Section) -> Case {
+    let (mut bytes, _) = section.encode();
+    let place = random.below(bytes.len());
+    bytes[place] = other_byte(random, bytes[place]);
+    Case::of(&section, bytes)
+}
+
+/// A byte of a header is another one.
+fn header_byte_changed(random: &mut Random, section: Section) -> Case {
+    let (mut bytes, starts) = section.encode();
+    let which = random.below(starts.len());
+    let place = starts[which] + random.below(section.indexes[which].length_bytes() + 32);
+    bytes[place] = other_byte(random, bytes[place]);
+    Case::of(&section, bytes)
+}
+
+/// A byte of an abbreviation table is another one. Its number stays one number or becomes a part of the next.
+fn table_byte_changed(random: &mut Random, mut section: Section) -> Case {
+    let index = some_index(random, &mut section);
+    let mut numbers = numbers_of(index);
+    if !numbers.is_empty() {
+        let which = random.below(numbers.len());
+        let number = &mut numbers[which];
+        let place = random.below(number.len());
+        number[place] = other_byte(random, number[place]);
+    }
+    Case::encoded(&section)
+}
+
+fn other_byte(random: &mut Random, byte: u8) -> u8 {
+    match random.below(4) {
+        0 => byte.wrapping_add(1),
+        1 => byte.wrapping_sub(1),
+        2 => byte ^ 0x80,
+        _ => byte ^ random.between(1, 255) as u8,
+    }
+}
+
+/// Every LEB128 number of an abbreviation table.
+fn numbers_of(index: &mut Index) -> Vec<&mut Vec<u8>> {
+    let mut numbers = Vec::new();
+    for declaration in &mut index.declarations {
+        numbers.push(&mut declaration.code);
+        numbers.push(&mut declaration.tag);
+        for (name, form) in &mut declaration.pairs {
+            numbers.push(name);
+            numbers.push(form);
+        }
+    }
+    numbers
+}
+
+/// A count is off by a little: the parts after it are cut at other places.
+fn count_wrong(random: &mut Random, mut section: Section) -> Case {
+    let count = random.pick(&COUNTS);
+    let index = some_index(random, &mut section);
+    let value = index.true_count(count);
+    let wrong = match random.below(4) {
+        0 => value.saturating_sub(1),
+        1 => value + random.between(2, 9) as u32,
+        2 if value > 0 => 0,
+        _ => value + 1,
+    };
+    index.wrong.push((count, wrong));
+    Case::encoded(&section)
+}
+
+/// A count is far too large: its bytes would not fit into 32 bits, or just do.
+fn count_much_too_large(random: &mut Random, mut section: Section) -> Case {
+    let count = random.pick(&COUNTS);
+    let wrong = random.pick(&[u32::MAX, u32::MAX - 2, 0x8000_0000, 0x4000_0000, 0x2000_0000, 0x1_0000, 1000]);
+    some_index(random, &mut section).wrong.push((count, wrong));
+    Case::encoded(&section)
+}
+
+fn version_wrong(random: &mut Random, mut section: Section) -> Case {
+    some_index(random, &mut section).version = random.pick(&[0, 1, 2, 3, 4, 6, 0x0500, 0x0105, 0xffff]);
+    Case::encoded(&section)
+}
+
+/// A length that DWARF 5 reserves; 0xffffffff has a 64-bit length behind it.
+fn length_reserved(random: &mut Random, section: Section) -> Case {
+    let (mut bytes, starts) = section.encode();
+    let place = random.pick(&starts);
+    let mut field = Writer::new(section.order);
+    field.u32(random.pick(&[0xffff_fff0, 0xffff_fff0, 0xffff_fff1, 0xffff_fff8, 0xffff_fffe, 0xffff_ffff]));
+    overwrite(&mut bytes, place, &field.bytes);
+    Case::of(&section, bytes)
+}
+
+/// A length that is off: by a little, so that the next header begins elsewhere, or by much.
+fn length_wrong(random: &mut Random, section: Section) -> Case {
+    let (mut bytes, starts) = section.encode();
+    let which = random.below(starts.len());
+    let index = &section.indexes[which];
+    let body = starts[which] + index.length_bytes();
+    let end = starts.get(which + 1).copied().unwrap_or(bytes.len());
+    let length = (end - body) as u64;
+    let wrong = match random.below(6) {
+        0 => length + 1,
+        1 => length - 1,
+        2 => length - random.below(length as usize) as u64,
+        3 => length + random.between(2, 40) as u64,
+        4 => 0,
+        _ if index.wide => random.pick(&[u64::MAX, 1 << 63, 0xffff_ffff]),
+        _ => 0xffff_ffef,
+    };
+    overwrite(&mut bytes, starts[which], &index.length_field(section.order, wrong));
+    Case::of(&section, bytes)
+}
+
+/// The bytes of a number in an abbreviation table are no number: too large, or too long. As a code, those of three bytes are
+/// numbers, and what follows them is wrong then.
+fn bad_leb128(random: &mut Random, mut section: Section) -> Case {
+    let bad: Vec<u8> = match random.below(7) {
+        0 => [vec![0xff; 9], vec![2]].concat(),
+        1 => [vec![0x80; 9], vec![0x80, 0]].concat(),
+        2 => [vec![0xff; 9], vec![1]].concat(),
+        3 => vec![0xff, 0xff, 4],
+        4 => vec![0x80, 0x80, 0x80, 0],
+        5 => vec![0x80, 0x80, 4],
+        _ => vec![0x81, 0x80, 0],
+    };
+    let index = some_index(random, &mut section);
+    let mut numbers = numbers_of(index);
+    if numbers.is_empty() {
+        index.table_end = bad;
+    } else {
+        let which = random.below(numbers.len());
+        *numbers[which] = bad;
+    }
+    Case::encoded(&section)
+}
+
+/// A 0 where none may stand: the tag, the name or the form; or a name or a form behind the last pair's 0. A code 0 ends the table
+/// early.
+fn zero_in_the_table(random: &mut Random, mut section: Section) -> Case {
+    let index = some_index(random, &mut section);
+    let count = index.declarations.len();
+    if count == 0 {
+        return table_cut(random, section);
+    }
+    let declaration = &mut index.declarations[random.below(count)];
+    let zero = random.pick(&[vec![0], vec![0x80, 0], vec![0x80, 0x80, 0]]);
+    let pair = random.below(declaration.pairs.len());
+    let last = pair + 1 == declaration.pairs.len();
+    match random.below(6) {
+        0 => declaration.code = zero,
+        1 | 2 => declaration.tag = zero,
+        3 | 4 if last => declaration.pairs[pair] = (zero, vec![0x13]),
+        _ if last => declaration.pairs[pair] = (vec![3], zero),
+        3 | 4 => declaration.pairs[pair].0 = zero,
+        _ => declaration.pairs[pair].1 = zero,
+    }
+    Case::encoded(&section)
+}
+
+/// The abbreviation table ends early or late: inside a declaration, or in the pool.
+fn table_cut(random: &mut Random, mut section: Section) -> Case {
+    let index = some_index(random, &mut section);
+    let len = index.table().len();
+    let wrong = match random.below(4) {
+        0 => len + random.between(1, 1 + index.pool.len()),
+        _ => random.between(0, len),
+    };
+    if random.once_in(2) {
+        index.table_end.clear();
+    }
+    index.wrong.push((Count::AbbreviationBytes, wrong as u32));
+    Case::encoded(&section)
+}
+
+/// A string's offset is the end of .debug_str, or past it.
+fn string_offset_wrong(random: &mut Random, mut section: Section) -> Case {
+    let end = section.strings.len() as u64;
+    let index = some_index(random, &mut section);
+    let count = index.string_offsets.len();
+    if count > 0 {
+        let largest = if index.wide { u64::MAX } else { u32::MAX.into() };
+        index.string_offsets[random.below(count)] = random.pick(&[end, end + 1, end + 1000, largest]);
+    }
+    Case::encoded(&section)
+}
+
+/// .debug_str ends before its last zero byte, or it is empty.
+fn strings_without_zero(random: &mut Random, mut section: Section) -> Case {
+    if random.once_in(4) {
+        section.strings.clear();
+    } else {
+        while section.strings.last() == Some(&0) {
+            section.strings.pop();
+        }
+    }
+    Case::encoded(&section)
+}
