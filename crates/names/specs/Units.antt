@@ -21,17 +21,21 @@ nthWord format order s at end k = do
   place ← skipped (wordBytes format k) s at end
   readNumber (wordSize format) order s place end
 
+-- the same as an offset of .debug_info
+unfoldable pub unitIn : Format → RunTimeEndian → List ℕ → ℕ → ℕ → ℕ → Outcome DebugInfoOffset
+unitIn format order s at end k = do
+  offset ← nthWord format order s at end k
+  answered (record { 0 = offset .value })
+
 unfoldable pub compileUnit : RunTimeEndian → List ℕ → NameIndex → ℕ → Outcome DebugInfoOffset
 compileUnit order s i k = do
   p ← fitted s i
-  offset ← nthWord (i .format) order s (p .«compile_unit_list») (p .«local_type_unit_list») k
-  answered (record { 0 = offset .value })
+  unitIn (i .format) order s (p .«compile_unit_list») (p .«local_type_unit_list») k
 
 unfoldable pub localTypeUnit : RunTimeEndian → List ℕ → NameIndex → ℕ → Outcome DebugInfoOffset
 localTypeUnit order s i k = do
   p ← fitted s i
-  offset ← nthWord (i .format) order s (p .«local_type_unit_list») (p .«foreign_type_unit_list») k
-  answered (record { 0 = offset .value })
+  unitIn (i .format) order s (p .«local_type_unit_list») (p .«foreign_type_unit_list») k
 
 -- signatures have 8 bytes in both formats
 unfoldable pub foreignTypeUnit : RunTimeEndian → List ℕ → NameIndex → ℕ → Outcome DebugTypeSignature

@@ -5,7 +5,7 @@
 ghost use mathlib.Core.Path.{_≡_};
 ghost use Rattle.reader.specs.Answers.{wordOutcome};
 ghost use Rattle.names.specs.Answers.{unitOutcome, signatureOutcome, typeUnitOutcome, defaultUnitOutcome};
-ghost use Rattle.names.specs.Units.{nthWord, compileUnit, localTypeUnit, foreignTypeUnit, typeUnit, defaultCompileUnit};
+ghost use Rattle.names.specs.Units.{nthWord, unitIn, compileUnit, localTypeUnit, foreignTypeUnit, typeUnit, defaultCompileUnit};
 use index::NameIndex;
 use index::PartsRead;
 use index::fit;
@@ -71,25 +71,34 @@ pub fn nth_word(
     }
 }
 
+// The unit of that number in a list of .debug_info offsets from `at` up to `end`.
+fn unit_in(
+    format: Format,
+    order: RunTimeEndian,
+    s: &[u8],
+    at: usize,
+    end: usize,
+    number: u32,
+) -> UnitRead
+    ensures { λ r. ⌜ unitOutcome r ≡ unitIn format order (now (s .entry)) at end number ⌝ }
+{
+    match nth_word(format, order, s, at, end, number) {
+        WordRead::Value(w) => UnitRead::Value(DebugInfoOffset(w.value)),
+        WordRead::Refused(e) => UnitRead::Refused(e),
+    }
+}
+
 // The .debug_info offset of a compile unit.
 pub fn compile_unit(order: RunTimeEndian, section: &[u8], index: NameIndex, number: u32) -> UnitRead
     ensures { λ r. ⌜ unitOutcome r ≡ compileUnit order (now (section .entry)) index number ⌝ }
 {
     let format = index.format;
-    let p = match fit(section, index) {
-        PartsRead::Value(p) => p,
-        PartsRead::Refused(e) => return UnitRead::Refused(e),
-    };
-    match nth_word(
-        format,
-        order,
-        section,
-        p.compile_unit_list,
-        p.local_type_unit_list,
-        number,
-    ) {
-        WordRead::Value(w) => UnitRead::Value(DebugInfoOffset(w.value)),
-        WordRead::Refused(e) => UnitRead::Refused(e),
+    match fit(section, index) {
+        PartsRead::Value(p) => {
+            let end = p.local_type_unit_list;
+            unit_in(format, order, section, p.compile_unit_list, end, number)
+        }
+        PartsRead::Refused(e) => UnitRead::Refused(e),
     }
 }
 
@@ -103,20 +112,12 @@ pub fn local_type_unit(
     ensures { λ r. ⌜ unitOutcome r ≡ localTypeUnit order (now (section .entry)) index number ⌝ }
 {
     let format = index.format;
-    let p = match fit(section, index) {
-        PartsRead::Value(p) => p,
-        PartsRead::Refused(e) => return UnitRead::Refused(e),
-    };
-    match nth_word(
-        format,
-        order,
-        section,
-        p.local_type_unit_list,
-        p.foreign_type_unit_list,
-        number,
-    ) {
-        WordRead::Value(w) => UnitRead::Value(DebugInfoOffset(w.value)),
-        WordRead::Refused(e) => UnitRead::Refused(e),
+    match fit(section, index) {
+        PartsRead::Value(p) => {
+            let end = p.foreign_type_unit_list;
+            unit_in(format, order, section, p.local_type_unit_list, end, number)
+        }
+        PartsRead::Refused(e) => UnitRead::Refused(e),
     }
 }
 

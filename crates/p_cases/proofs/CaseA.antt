@@ -13,7 +13,7 @@ use Rattle.abbreviations.specs.Abbreviations.{pair, attributesIn, attributes, h
 use Rattle.index.specs.Header.{headerCut, counts, padding, augmentation, headerBody, header}
 use Rattle.index.specs.Layout.{wordBytes, hashBytes, sizes, placesFrom, place, parts, fitted}
 use Rattle.index.specs.Open.{indexOf, passedOver, cutParts, nameIndex}
-use Rattle.names.specs.Units.{nthWord, compileUnit}
+use Rattle.names.specs.Units.{nthWord, unitIn, compileUnit}
 use Rattle.names.specs.Names.{nameStringOffset, nameString, nameStringBytes}
 use Rattle.names.specs.Declarations.{getAbbreviation}
 use Rattle.p_cases.specs.CaseA.{caseA, stringsA, headerA, indexA, partsA, HeaderOfA, OpensA, PartsOfA, FitsA, UnitsOfA, StringsOfA, BytesOfA, AbbreviationsOfA}
@@ -35,7 +35,7 @@ unfolding caseA indexA parts place placesFrom sizes wordBytes hashBytes longest
 fits-a = (omega arith, (omega arith, omega arith))
 
 pub units-of-a : UnitsOfA
-unfolding caseA indexA compileUnit nthWord fitted parts place placesFrom sizes wordBytes hashBytes longest readNumber skipped spelled digits
+unfolding caseA indexA compileUnit unitIn nthWord fitted parts place placesFrom sizes wordBytes hashBytes longest readNumber skipped spelled digits
 units-of-a = refl
 
 pub strings-of-a : StringsOfA

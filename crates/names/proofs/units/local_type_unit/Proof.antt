@@ -11,6 +11,9 @@ fit-requires c κs = search needs
 enum-known-p : tie.Need-enum-known-p
 enum-known-p c = search needs
 
+unit-in-requires : tie.Need-unit-in-requires
+unit-in-requires c κs = search needs
+
 enum-known-e : tie.Need-enum-known-e
 enum-known-e c = search needs
 
@@ -18,49 +21,19 @@ returns : tie.Need-returns
 unfolding localTypeUnit
 returns c =
     rw (
-      ← c .before .before .before .fit .ensures,
-      c .before .e .given .1,
+      ← c .before .before .before .before .fit .ensures,
+      c .before .before .p .given .1,
+      ← c .unit-in .ensures,
     )
-
-nth-word-requires : tie.Need-nth-word-requires
-nth-word-requires c κs = search needs
-
-enum-known-w : tie.Need-enum-known-w
-enum-known-w c = search needs
-
-enum-known-e-2 : tie.Need-enum-known-e-2
-enum-known-e-2 c = search needs
 
 returns-2 : tie.Need-returns-2
 unfolding localTypeUnit
 returns-2 c =
     rw (
-      ← c .before .before .before .before .before .before .before .fit .ensures,
-      c .before .before .before .before .before .p .given .1,
-      ← c .before .before .before .nth-word .ensures,
-      c .before .w .given .1,
-    )
-
-returns-3 : tie.Need-returns-3
-unfolding localTypeUnit
-returns-3 c =
-    rw (
-      ← c .before .before .before .before .before .before .before .fit .ensures,
-      c .before .before .before .before .before .p .given .1,
-      ← c .before .before .before .nth-word .ensures,
-      c .before .e2 .given .1,
+      ← c .before .before .before .fit .ensures,
+      c .before .e .given .1,
     )
 
 pub local-type-unit-spec : {M : Type 1} → statement M
 local-type-unit-spec =
-    tie.close
-    (tie.spec
-    fit-requires
-    enum-known-p
-    enum-known-e
-    returns
-    nth-word-requires
-    enum-known-w
-    enum-known-e-2
-    returns-2
-    returns-3)
+    tie.close (tie.spec fit-requires enum-known-p unit-in-requires enum-known-e returns returns-2)
