@@ -1,25 +1,25 @@
 -- Laws of the abbreviation table: pairs and declarations one at a time, with no count of turns, and what each answer tells.
-use Prim.Native.Nat.{ℕ, zero, suc, _+_, _-_, _≤_, _<_}
+use Prim.Native.Nat.{ℕ, zero, suc, _-_, _≤_, _<_}
 use mathlib.Core.Path.{_≡_, refl, sym, ap, _∙_}
 use mathlib.Core.Bool.{Bool, true, false, cond}
 use mathlib.Core.Logic.{_⊎_, inl, inr}
-use mathlib.Core.List.{List, [], _∷_}
+use mathlib.Core.List.{List, []}
 use mathlib.Core.Option.{Option, some, none, Option·none-ne-some, Option·some-injective}
 use native.Mathlib.Omega.{arith}
 use lib.Dec.{eqb}
 use lib.Seq.{slice}
-use borrow.Author.Tests.{eq-eqb, ne-eqb}
+use borrow.Author.Tests.{eq-eqb, eqb-true}
 use Rattle.reader.specs.Outcome.{Outcome, answered, refused, _>>=_, _>>_, demand, refuseIf}
 use Rattle.reader.specs.Parts.{partEnd, leftAt, Forward}
-use Rattle.reader.specs.Numbers.{Read}
 use Rattle.reader.specs.Leb128.{leb128, unsignedLimit, u16Limit}
-use Rattle.reader.specs.Listing.{Listing, ended, broken, item, listed, listing, Advances}
+use Rattle.reader.specs.Listing.{listed, listing, Advances}
 use Rattle.reader.proofs.OutcomeLaws.{refused-answered, same-answer, bind-answered, then-answered, bind-both, cond-is}
 use Rattle.reader.proofs.PartLaws.{slice-from, slice-left}
 use Rattle.reader.proofs.Leb128Laws.{leb128-forward, leb128-none, leb128-part}
 use Rattle.reader.proofs.ListingLaws.{listing-step, listing-agree}
 use Rattle.abbreviations.specs.declared.NameAbbreviation.{NameAbbreviation}
 use Rattle.abbreviations.specs.declared.Abbreviation.{Abbreviation}
+use Rattle.abbreviations.specs.Sanity.{TablesUnfold, DeclarationsForward, DeclarationsRead, FoundInTable, TablesInPart}
 use Rattle.abbreviations.specs.Abbreviations.{Pair, pair, Attributes, before, attributesIn, attributes, attributesEnd, Head, head, Declaration, withAttributes, declaration, table, ending, parsed, find, handed, handedOut, handedOn, found, declared}
 
 -- the test of a pair
@@ -140,8 +140,7 @@ head-forward s at end h e =
     other false m e = (refl, e)
 
 -- what an answered declaration says: its attributes are those that its place has, and its place lies ahead
-pub declaration-read : (s : List ℕ) (at end : ℕ) (d : Declaration) → declaration s at end ≡ answered (some d)
-    → (at < d .place) × (attributes s (d .place) end ≡ answered (record { list = d .attributes; next = d .next }))
+pub declaration-read : DeclarationsRead
 unfolding declaration withAttributes
 declaration-read s at end d e =
     let (o, read-head, rest) = bind-answered (head s at end) _ (some d) e in
@@ -156,7 +155,7 @@ declaration-read s at end d e =
         rw (sym (Option·some-injective _ _ (same-answer same))) (ahead, read)
 
 -- a declaration moves forward, and stays inside its part
-pub declaration-forward : (s : List ℕ) (at end : ℕ) (d : Declaration) → declaration s at end ≡ answered (some d) → Forward s at end (d .next)
+pub declaration-forward : DeclarationsForward
 declaration-forward s at end d e =
     let (ahead, read) = declaration-read s at end d e in
     let (further, inside) = attributes-forward s (d .place) end _ read in
@@ -174,7 +173,7 @@ table-advances s end = record {
 }
 
 -- the table is a declaration and the table after it
-pub table-step : (s : List ℕ) (at end : ℕ) → table s at end ≡ listed (declaration s at end) λ d. table s (d .next) end
+pub table-step : TablesUnfold
 unfolding table
 table-step s at end = listing-step (λ place. declaration s place end) (λ d. d .next) (partEnd s end) (table-advances s end) at
 
@@ -292,7 +291,7 @@ declaration-part s t at end e = bind-both (head s at end) (head t at end) _ _ (h
         let (ahead, inside) = head-forward s at end h read in
         rw (attributes-part s t (h .next) end (slice-from s t at (h .next) end (omega arith) e))
 
-pub table-part : (s t : List ℕ) (at end : ℕ) → slice at end s ≡ slice at end t → table s at end ≡ table t at end
+pub table-part : TablesInPart
 unfolding table
 table-part s t at end e =
     rw (slice-left s t at end e)
@@ -303,3 +302,30 @@ table-part s t at end e =
 pub parsed-part : (s t : List ℕ) (at end : ℕ) → slice at end s ≡ slice at end t → parsed s at end ≡ parsed t at end
 unfolding parsed
 parsed-part s t at end e = rw (table-part s t at end e)
+
+-- what a search finds, by the listing with its turns
+found-in : (turns code : ℕ) (s : List ℕ) (at end : ℕ) (d : Declaration) → find code (listing (λ place. declaration s place end) (λ d. d .next) turns at) ≡ answered (some d)
+    → (d .code ≡ code) × ((place : ℕ) × (declaration s place end ≡ answered (some d)))
+unfolding listing find
+found-in zero code s at end d e = absurd (Option·none-ne-some d (same-answer e))
+found-in (suc turns) code s at end d e = by-cases (declaration s at end) refl (λ next. found-in turns code s next end d) e
+  where
+    chosen : (t : Bool) (f : Declaration) → eqb (f .code) code ≡ t → declaration s at end ≡ answered (some f) → (rest : Outcome (Option Declaration))
+        → (rest ≡ answered (some d) → (d .code ≡ code) × ((place : ℕ) × (declaration s place end ≡ answered (some d))))
+        → cond t (answered (some f)) rest ≡ answered (some d) → (d .code ≡ code) × ((place : ℕ) × (declaration s place end ≡ answered (some d)))
+    chosen true f same read rest more e =
+        let this : f ≡ d = Option·some-injective f d (same-answer e) in
+        (rw (sym this) (eqb-true (f .code) code same), (at, rw (sym this) read))
+    chosen false f other read rest more e = more e
+
+    by-cases : (o : Outcome (Option Declaration)) → declaration s at end ≡ o
+        → ((next : ℕ) → find code (listing (λ place. declaration s place end) (λ d. d .next) turns next) ≡ answered (some d) → (d .code ≡ code) × ((place : ℕ) × (declaration s place end ≡ answered (some d))))
+        → find code (listed o λ d. listing (λ place. declaration s place end) (λ d. d .next) turns (d .next)) ≡ answered (some d)
+        → (d .code ≡ code) × ((place : ℕ) × (declaration s place end ≡ answered (some d)))
+    by-cases (answered none) read more e = absurd (Option·none-ne-some d (same-answer e))
+    by-cases (answered (some f)) read more e = chosen (eqb (f .code) code) f refl read _ (more (f .next)) e
+    by-cases (refused n v) read more e = absurd (refused-answered e)
+
+pub found-in-table : FoundInTable
+unfolding table
+found-in-table code s at end d e = found-in (partEnd s end - at) code s at end d e

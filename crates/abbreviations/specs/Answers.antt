@@ -1,5 +1,4 @@
 -- The outcome that each answer of the code stands for.
-use Prim.Native.Nat.{ℕ}
 use mathlib.Core.Option.{Option, some, none}
 use Rattle.reader.specs.Outcome.{Outcome, answered}
 use Rattle.reader.specs.Errors.{refusal}

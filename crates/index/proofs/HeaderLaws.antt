@@ -1,5 +1,5 @@
 -- Laws of headers: padding, what an answered header says, and that steps move forward.
-use Prim.Native.Nat.{ℕ, zero, suc, _+_, _-_, _*_, _%_, _/_, _≤_, _<_, min}
+use Prim.Native.Nat.{ℕ, _+_, _-_, _/_, _≤_, _<_}
 use mathlib.Core.Path.{_≡_, refl, sym, ap, _∙_}
 use mathlib.Core.Bool.{Bool, true, false, cond}
 use mathlib.Core.Logic.{_⊎_, inl, inr}
@@ -8,13 +8,13 @@ use mathlib.Core.Option.{Option, some, none, Option·none-ne-some, Option·some-
 use native.Mathlib.Omega.{arith}
 use lib.ListN.{length}
 use lib.Seq.{slice}
-use lib.Dec.{ltb, leb, eqb}
-use borrow.Author.Tests.{ltb-false, le-ltb, eq-eqb, ne-eqb, eqb-true, eqb-false}
+use lib.Dec.{ltb, eqb}
+use borrow.Author.Tests.{le-ltb, eqb-false}
 use Rattle.reader.specs.Outcome.{Outcome, answered, refused, _>>=_, _>>_, demand, refuseIf}
 use Rattle.reader.specs.Errors.{longest}
 use Rattle.reader.specs.Parts.{partEnd, skipped, cut}
 use Rattle.reader.specs.Numbers.{Read, readNumber, initialLength}
-use Rattle.reader.specs.Steps.{Step, keeping, Linked, no-steps, step-then, hasEnd}
+use Rattle.reader.specs.Steps.{Step, keeping, no-steps, step-then, hasEnd}
 use Rattle.reader.specs.declared.endianity.RunTimeEndian.{RunTimeEndian}
 use Rattle.reader.proofs.OutcomeLaws.{refused-answered, same-answer, bind-answered, then-answered, cond-is, bind-same, bind-both}
 use Rattle.reader.proofs.PartLaws.{skip-answered, cut-answered, skip-part, slice-from}
@@ -26,7 +26,6 @@ use Rattle.index.specs.declared.header.ReadAugmentation.{ReadAugmentatio
 use Rattle.index.specs.declared.header.NameIndexHeader.{NameIndexHeader}
 use Rattle.index.specs.declared.headers.NameIndexHeaderIter.{NameIndexHeaderIter}
 use Rattle.index.specs.Header.{headerCut, counts, padding, augmentation, headerBody, header}
-use Rattle.index.specs.declared.headers.HeaderStep.{HeaderStep}
 use Rattle.index.specs.Answers.{headerStepOf}
 use Rattle.index.specs.Headers.{afterHeader, headerStep}
 use Rattle.index.specs.Sanity.{PaddingFills, PaddingLeast, HeadersFit, StepsForward, WalksEnd, BodiesInPart}

@@ -1,11 +1,11 @@
 -- Laws of opening: cutting the parts by skips is comparing their places with the end; an opened index fits.
-use Prim.Native.Nat.{ℕ, zero, suc, _+_, _*_, _≤_, _<_, min}
-use mathlib.Core.Path.{_≡_, refl, sym, ap, _∙_}
+use Prim.Native.Nat.{ℕ, _+_, _≤_}
+use mathlib.Core.Path.{_≡_, refl, sym, _∙_}
 use mathlib.Core.Bool.{Bool, true, false, cond}
 use mathlib.Core.List.{List, [], _∷_}
 use native.Mathlib.Omega.{arith}
 use lib.ListN.{length, getD}
-use lib.Dec.{ltb, leb}
+use lib.Dec.{ltb}
 use lib.Seq.{slice}
 use borrow.Author.Tests.{ltb-true, ltb-false, le-ltb}
 use Rattle.reader.specs.Outcome.{Outcome, answered, refused, _>>=_, _>>_, refuseIf}
@@ -59,10 +59,10 @@ over-answered (n ∷ ns) s at end q h e =
     over-answered ns s (at + n) end q inside (rw (sym place) rest)
 
 -- parts that were cut are the index's, and its pool begins inside
-pub cut-answered : (s : List ℕ) (i : NameIndex) (p : Parts) → i .begin ≤ partEnd s (i .end) → cutParts s i ≡ answered p
+pub parts-cut : (s : List ℕ) (i : NameIndex) (p : Parts) → i .begin ≤ partEnd s (i .end) → cutParts s i ≡ answered p
     → (parts i .«entry_pool» ≤ partEnd s (i .end)) × (p ≡ parts i)
 unfolding cutParts parts place sizes
-cut-answered s i p h e =
+parts-cut s i p h e =
     let (q, over, same) = then-answered (passedOver (sizes i) s (i .begin) (i .end)) _ p e in
     let (inside, last) = over-answered (sizes i) s (i .begin) (i .end) q h over in
     (rw (sym last) inside, sym (same-answer same))
@@ -71,7 +71,7 @@ cut-answered s i p h e =
 described-fits : (s : List ℕ) (h : NameIndexHeader) → h .content .end ≤ length s → h .content .at ≤ h .content .end → (p : Parts) → cutParts s (indexOf h) ≡ answered p → Fits s (indexOf h)
 unfolding indexOf
 described-fits s h ends begins p cuts =
-    let (pool, same) = cut-answered s (indexOf h) p (omega arith) cuts in
+    let (pool, same) = parts-cut s (indexOf h) p (omega arith) cuts in
     (omega (arith, pool), ends)
 
 -- and its abbreviation table lies inside the header's part
@@ -80,7 +80,7 @@ same-table : (s t : List ℕ) (h : NameIndexHeader) → h .content .end ≤ leng
     → (p : Parts) → cutParts s (indexOf h) ≡ answered p → parsed s (p .«abbreviation_table») (p .«entry_pool») ≡ parsed t (p .«abbreviation_table») (p .«entry_pool»)
 unfolding indexOf parts
 same-table s t h ends begins e p cuts =
-    let (pool, same) = cut-answered s (indexOf h) p (omega arith) cuts in
+    let (pool, same) = parts-cut s (indexOf h) p (omega arith) cuts in
     let (first, follow) = parts-follow (indexOf h) in
     let after : place (indexOf h) 0 ≤ place (indexOf h) 7 = places-ascend (indexOf h) 0 7 (omega arith) (omega arith) in
     rw same (parsed-part s t _ _ (slice-within s t (h .content .at) (place (indexOf h) 7) (place (indexOf h) 8) (h .content .end) (omega (arith, first)) (omega (arith, pool)) e))

@@ -1,6 +1,6 @@
 -- The outcome that each answer of the code stands for.
-use mathlib.Core.Option.{Option, some, none}
-use Rattle.reader.specs.Outcome.{Outcome, answered, refused}
+use mathlib.Core.Option.{some, none}
+use Rattle.reader.specs.Outcome.{Outcome, answered}
 use Rattle.reader.specs.Errors.{refusal}
 use Rattle.reader.specs.Steps.{Step}
 use Rattle.index.specs.declared.header.HeaderCut.{HeaderCut}

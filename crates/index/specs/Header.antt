@@ -4,7 +4,7 @@ use mathlib.Core.Bool.{cond}
 use mathlib.Core.List.{List}
 use lib.ListN.{length}
 use lib.Dec.{eqb}
-use Rattle.reader.specs.Outcome.{Outcome, answered, refused, _>>=_, _>>_, demand}
+use Rattle.reader.specs.Outcome.{Outcome, answered, _>>=_, _>>_, demand}
 use Rattle.reader.specs.Parts.{skipped, cut}
 use Rattle.reader.specs.Numbers.{readNumber, initialLength}
 use Rattle.reader.specs.declared.endianity.RunTimeEndian.{RunTimeEndian}

@@ -2,7 +2,7 @@
 use Prim.Native.Nat.{ℕ}
 use mathlib.Core.Bool.{cond}
 use mathlib.Core.List.{List}
-use mathlib.Core.Option.{Option, some, none}
+use mathlib.Core.Option.{some, none}
 use lib.ListN.{length}
 use lib.Dec.{ltb, eqb}
 use Rattle.reader.specs.Outcome.{Outcome, answered, refused, _>>_, refuseIf}

@@ -4,7 +4,7 @@ use mathlib.Core.Bool.{cond}
 use mathlib.Core.List.{List, [], _∷_}
 use lib.ListN.{length, getD}
 use lib.Dec.{ltb, eqb}
-use Rattle.reader.specs.Outcome.{Outcome, answered, refused, _>>_, refuseIf}
+use Rattle.reader.specs.Outcome.{Outcome, answered, _>>_, refuseIf}
 use Rattle.reader.specs.Errors.{longest}
 use Rattle.reader.specs.Numbers.{wordSize}
 use Rattle.reader.specs.declared.common.Format.{Format}

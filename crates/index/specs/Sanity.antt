@@ -4,12 +4,12 @@ use Prim.Native.Nat.{ℕ, suc, _+_, _-_, _*_, _≤_, _<_}
 use mathlib.Core.Path.{_≡_}
 use mathlib.Core.Bool.{true}
 use mathlib.Core.List.{List, map}
-use mathlib.Core.Option.{Option, some, none}
+use mathlib.Core.Option.{some}
 use lib.ListN.{length, getD}
 use lib.Seq.{slice}
-use Rattle.reader.specs.Outcome.{Outcome, answered}
+use Rattle.reader.specs.Outcome.{answered}
 use Rattle.reader.specs.Errors.{longest}
-use Rattle.reader.specs.Steps.{Step, Linked, hasEnd}
+use Rattle.reader.specs.Steps.{Linked, hasEnd}
 use Rattle.reader.specs.declared.endianity.RunTimeEndian.{RunTimeEndian}
 use Rattle.index.specs.declared.header.HeaderCut.{HeaderCut}
 use Rattle.index.specs.declared.header.NameIndexHeader.{NameIndexHeader}

@@ -1,9 +1,9 @@
 -- Laws of names: the bytes of a name's string are those at its string offset; the steps of a cursor give the names in order.
 use Prim.Native.Nat.{ℕ, zero, suc, _+_, _-_, _≤_, _<_}
 use mathlib.Core.Path.{_≡_, refl, sym, ap, ap₂, _∙_}
-use mathlib.Core.Bool.{Bool, true, false, cond}
+use mathlib.Core.Bool.{Bool, true, false}
 use mathlib.Core.List.{List, [], _∷_, _++_, map}
-use mathlib.Core.Option.{Option, some, none}
+use mathlib.Core.Option.{Option, none}
 use native.Mathlib.Omega.{arith}
 use lib.ListN.{length, take, replicate}
 use lib.Dec.{ltb, leb}
@@ -17,8 +17,7 @@ use Rattle.reader.specs.declared.common.NameTableIndex.{NameTableIndex}
 use Rattle.index.specs.declared.layout.NameIndex.{NameIndex}
 use Rattle.index.specs.Layout.{Fits, fitted}
 use Rattle.index.proofs.LayoutLaws.{fitted-fits}
-use Rattle.reader.specs.Steps.{Step, Linked, no-steps, step-then}
-use Rattle.names.specs.declared.table.NameTableIter.{NameTableIter}
+use Rattle.reader.specs.Steps.{Linked, no-steps, step-then}
 use Rattle.names.specs.declared.table.NameTableStep.{NameTableStep}
 use Rattle.names.specs.Answers.{nameStepOf}
 use Rattle.names.specs.Sanity.{numbersFrom, named, theEnd, NamesInOrder}

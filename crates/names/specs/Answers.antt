@@ -1,8 +1,8 @@
 -- The outcome that each answer of the code stands for.
 use Prim.Native.Nat.{ℕ}
 use mathlib.Core.Bool.{Bool}
-use mathlib.Core.Option.{Option, some, none}
-use Rattle.reader.specs.Outcome.{Outcome, answered, refused}
+use mathlib.Core.Option.{some, none}
+use Rattle.reader.specs.Outcome.{Outcome, answered}
 use Rattle.reader.specs.Errors.{refusal}
 use Rattle.reader.specs.Steps.{Step}
 use Rattle.reader.specs.declared.common.DebugInfoOffset.{DebugInfoOffset}

@@ -3,7 +3,7 @@ use Prim.Native.Nat.{ℕ, _+_}
 use mathlib.Core.Bool.{Bool}
 use mathlib.Core.List.{List}
 use lib.Dec.{ltb}
-use Rattle.reader.specs.Outcome.{Outcome, answered, refused, _>>_}
+use Rattle.reader.specs.Outcome.{Outcome, answered, _>>_}
 use Rattle.index.specs.declared.layout.NameIndex.{NameIndex}
 use Rattle.index.specs.Layout.{fitted}
 

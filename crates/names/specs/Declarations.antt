@@ -1,7 +1,7 @@
 -- The abbreviation of a code: document 01, "Abbreviations". `s` is the section.
 use Prim.Native.Nat.{ℕ}
 use mathlib.Core.List.{List}
-use Rattle.reader.specs.Outcome.{Outcome, answered, refused, _>>=_}
+use Rattle.reader.specs.Outcome.{Outcome, _>>=_}
 use Rattle.abbreviations.specs.Abbreviations.{found}
 use Rattle.abbreviations.specs.declared.Abbreviation.{Abbreviation}
 use Rattle.index.specs.declared.layout.NameIndex.{NameIndex}

@@ -1,10 +1,9 @@
 -- The names of an index and their strings: document 01, "Headers and layout" and "Strings". `s` is .debug_names, and `strs`
 -- is .debug_str.
-use Prim.Native.Nat.{ℕ, zero, suc, _+_}
-use mathlib.Core.Path.{_≡_}
+use Prim.Native.Nat.{ℕ, _+_}
 use mathlib.Core.Bool.{cond}
-use mathlib.Core.List.{List, [], _∷_, _++_}
-use mathlib.Core.Option.{Option, some, none}
+use mathlib.Core.List.{List}
+use mathlib.Core.Option.{some, none}
 use lib.ListN.{length}
 use lib.Dec.{ltb, leb}
 use Rattle.reader.specs.Outcome.{Outcome, answered, refused, _>>=_, _>>_, refuseIf}

@@ -1,13 +1,13 @@
 -- Theorems over several calls, and what a reader of the definitions may want to be sure of. The laws of proofs/NameLaws.antt that
 -- have these types prove them.
-use Prim.Native.Nat.{ℕ, zero, suc, _≤_, _<_}
+use Prim.Native.Nat.{ℕ, zero, suc, _≤_}
 use mathlib.Core.Path.{_≡_}
 use mathlib.Core.List.{List, [], _∷_, _++_, map}
 use mathlib.Core.Option.{Option, some, none}
 use lib.ListN.{length, take, replicate}
 use Rattle.reader.specs.Outcome.{Outcome, answered}
 use Rattle.reader.specs.Errors.{longest}
-use Rattle.reader.specs.Steps.{Step, Linked}
+use Rattle.reader.specs.Steps.{Linked}
 use Rattle.reader.specs.declared.common.NameTableIndex.{NameTableIndex}
 use Rattle.index.specs.declared.layout.NameIndex.{NameIndex}
 use Rattle.index.specs.Layout.{Fits}

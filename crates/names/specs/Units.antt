@@ -3,7 +3,7 @@ use Prim.Native.Nat.{ℕ, _-_, _*_}
 use mathlib.Core.Bool.{cond}
 use mathlib.Core.List.{List}
 use lib.Dec.{ltb, eqb}
-use Rattle.reader.specs.Outcome.{Outcome, answered, refused, _>>=_, _>>_}
+use Rattle.reader.specs.Outcome.{Outcome, answered, _>>=_, _>>_}
 use Rattle.reader.specs.Parts.{skipped}
 use Rattle.reader.specs.Numbers.{Read, readNumber, wordSize}
 use Rattle.reader.specs.declared.endianity.RunTimeEndian.{RunTimeEndian}

@@ -1,8 +1,6 @@
 -- Case A is what document 01 says, by computation.
-use Prim.Native.Nat.{_≤_}
 use mathlib.Core.Path.{refl}
 use native.Mathlib.Omega.{arith}
-use lib.ListN.{length}
 use Rattle.reader.specs.Errors.{longest}
 use Rattle.reader.specs.Parts.{skipped, cut}
 use Rattle.reader.specs.Numbers.{digits, spelled, readNumber, initialLength}
@@ -10,7 +8,7 @@ use Rattle.reader.specs.Leb128.{leb128, numberOfBytes, numberBytes, someBeyond,
 use Rattle.reader.specs.Strings.{beforeZero, zeroFrom, getStr, textBytes}
 use Rattle.reader.specs.Listing.{listing}
 use Rattle.abbreviations.specs.Abbreviations.{pair, attributesIn, attributes, head, withAttributes, declaration, table, ending, parsed, find, found}
-use Rattle.index.specs.Header.{headerCut, counts, padding, augmentation, headerBody, header}
+use Rattle.index.specs.Header.{headerCut, counts, augmentation, headerBody, header}
 use Rattle.index.specs.Layout.{wordBytes, hashBytes, sizes, placesFrom, place, parts, fitted}
 use Rattle.index.specs.Open.{indexOf, passedOver, cutParts, nameIndex}
 use Rattle.names.specs.Units.{nthWord, unitIn, compileUnit}

@@ -9,8 +9,6 @@ use Rattle.reader.specs.Errors.{longest}
 use Rattle.reader.specs.Strings.{Text}
 use Rattle.reader.specs.declared.endianity.RunTimeEndian.{RunTimeEndian}
 use Rattle.reader.specs.declared.common.Format.{Format}
-use Rattle.reader.specs.declared.common.DebugInfoOffset.{DebugInfoOffset}
-use Rattle.reader.specs.declared.common.DebugStrOffset.{DebugStrOffset}
 use Rattle.abbreviations.specs.declared.Abbreviation.{Abbreviation}
 use Rattle.index.specs.declared.header.Augmentation.{Augmentation}
 use Rattle.index.specs.declared.header.NameIndexHeader.{NameIndexHeader}
@@ -20,7 +18,7 @@ use Rattle.index.specs.Header.{header}
 use Rattle.index.specs.Layout.{Fits, fitted}
 use Rattle.index.specs.Open.{nameIndex}
 use Rattle.names.specs.Units.{compileUnit}
-use Rattle.names.specs.Names.{nameStringOffset, nameString, nameStringBytes}
+use Rattle.names.specs.Names.{nameString, nameStringBytes}
 use Rattle.names.specs.Declarations.{getAbbreviation}
 
 -- the bytes, a line for each sentence of document 01: the length; the version and its padding; C; L; F; B; N; A; the augmentation;

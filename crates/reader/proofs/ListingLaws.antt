@@ -1,10 +1,10 @@
 -- Laws of listings: what stands first, and what follows it, with no count of turns.
-use Prim.Native.Nat.{ℕ, zero, suc, _+_, _-_, _≤_, _<_}
-use mathlib.Core.Path.{_≡_, refl, sym, _∙_, ap}
+use Prim.Native.Nat.{ℕ, zero, suc, _+_, _-_, _≤_}
+use mathlib.Core.Path.{_≡_, refl, _∙_, ap}
 use mathlib.Core.Option.{Option, some, none}
 use native.Mathlib.Omega.{arith}
 use Rattle.reader.specs.Outcome.{Outcome, answered, refused}
-use Rattle.reader.specs.Listing.{Listing, ended, broken, item, listed, listing, Advances}
+use Rattle.reader.specs.Listing.{Listing, item, listed, listing, Advances}
 
 -- listings that begin with the same reading and go on in the same way are the same
 pub listed-same : {A : Type 0} (o : Outcome (Option A)) (f g : A → Listing A) → ((a : A) → o ≡ answered (some a) → f a ≡ g a) → listed o f ≡ listed o g
