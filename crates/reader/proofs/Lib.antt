@@ -7,3 +7,4 @@ pub mod Leb128Laws
 pub mod Leb128Limits
 pub mod StringLaws
 pub mod ListingLaws
+pub mod StepLaws

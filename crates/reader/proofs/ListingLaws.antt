@@ -4,7 +4,7 @@ use mathlib.Core.Path.{_≡_, refl, _∙_, ap}
 use mathlib.Core.Option.{Option, some, none}
 use native.Mathlib.Omega.{arith}
 use Rattle.reader.specs.Outcome.{Outcome, answered, refused}
-use Rattle.reader.specs.Listing.{Listing, item, listed, listing, Advances}
+use Rattle.reader.specs.Listing.{Listing, item, listed, listing, items, Advances}
 
 -- listings that begin with the same reading and go on in the same way are the same
 pub listed-same : {A : Type 0} (o : Outcome (Option A)) (f g : A → Listing A) → ((a : A) → o ≡ answered (some a) → f a ≡ g a) → listed o f ≡ listed o g
@@ -43,3 +43,16 @@ module _ {A : Type 0} (read : ℕ → Outcome (Option A)) (past : A → ℕ) (st
       ∙ listed-same (read at) _ _ λ a e.
       let (ahead, inside) = moves .forward at a e in
       listing-turns (stop - at) (stop - past a) (past a) (omega arith) (omega arith)
+
+-- each turn lists at most one item
+pub listing-items : {A : Type 0} (read : ℕ → Outcome (Option A)) (past : A → ℕ) (k at : ℕ) → items (listing read past k at) ≤ k
+unfolding listing items
+listing-items read past zero at = omega arith
+listing-items {A = A} read past (suc k) at = by-cases (read at) λ a. listing-items read past k (past a)
+  where
+    by-cases : (o : Outcome (Option A)) → ((a : A) → items (listing read past k (past a)) ≤ k) → items (listed o λ a. listing read past k (past a)) ≤ suc k
+    by-cases (answered none) more = omega arith
+    by-cases (answered (some a)) more =
+        let rest = more a in
+        omega arith
+    by-cases (refused n v) more = omega arith

@@ -1,6 +1,7 @@
 -- What stands one after another in a part (declarations, entries, headers), as a list that also tells how it ended.
 use Prim.Native.Nat.{ℕ, zero, suc, _≤_, _<_}
 use mathlib.Core.Path.{_≡_}
+use mathlib.Core.List.{List, [], _∷_}
 use mathlib.Core.Option.{Option, some, none}
 use Rattle.reader.specs.Outcome.{Outcome, answered, refused}
 
@@ -28,3 +29,15 @@ listing read past (suc turns) at = listed (read at) λ a. listing read past turn
 pub record Advances {A : Type 0} (read : ℕ → Outcome (Option A)) (past : A → ℕ) (stop : ℕ) : Type 0 where
   pub forward : (at : ℕ) (a : A) → read at ≡ answered (some a) → (at < past a) × (past a ≤ stop)
   pub none-at-stop : (at : ℕ) → stop ≤ at → read at ≡ answered none
+
+-- how many items were listed
+unfoldable pub items : {A : Type 0} → Listing A → ℕ
+items ended = 0
+items (broken n v) = 0
+items (item a rest) = suc (items rest)
+
+-- what steps over a listing have to answer: each item in turn, as it is shown, and a refusal last
+unfoldable pub answersOf : {A B : Type 0} → (A → B) → Listing A → List (Outcome (Option B))
+answersOf shown ended = []
+answersOf shown (broken n v) = refused n v ∷ []
+answersOf shown (item a rest) = answered (some (shown a)) ∷ answersOf shown rest

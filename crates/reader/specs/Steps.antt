@@ -1,6 +1,8 @@
 -- Steps of a cursor: document 01, "Each step takes a cursor and hands back the cursor after it".
 use mathlib.Core.Path.{_≡_}
 use mathlib.Core.List.{List, [], _∷_}
+use lib.ListN.{length, take}
+use lib.Dec.{ltb}
 use mathlib.Core.Bool.{Bool, true, false}
 use mathlib.Core.Option.{Option, some, none}
 use Rattle.reader.specs.Outcome.{Outcome, answered, refused}
@@ -27,3 +29,16 @@ hasEnd [] = false
 hasEnd (answered none ∷ os) = true
 hasEnd (answered (some a) ∷ os) = hasEnd os
 hasEnd (refused n v ∷ os) = hasEnd os
+
+-- the answers up to the first end
+unfoldable pub upToEnd : {A : Type 0} → List (Outcome (Option A)) → List (Outcome (Option A))
+upToEnd [] = []
+upToEnd (answered none ∷ os) = []
+upToEnd (answered (some a) ∷ os) = answered (some a) ∷ upToEnd os
+upToEnd (refused n v ∷ os) = refused n v ∷ upToEnd os
+
+-- Demand 3, of the answers of a list of steps and what their lookup has to list. The answers up to the first end are its beginning, in
+-- order and without a gap: as many as there are steps, or all of it. And the first end is the first step before which all of it is
+-- answered: there is an end exactly if there are more steps than it has elements.
+abbrev pub ListsInOrder : {A : Type 0} → List (Outcome (Option A)) → List (Outcome (Option A)) → Type 0
+ListsInOrder answers expected = (upToEnd answers ≡ take (length answers) expected) × (hasEnd answers ≡ ltb (length expected) (length answers))

@@ -1,0 +1,202 @@
+-- Laws of attributes: the values one pair at a time, with no count of turns; the first attribute of each name, kept on the way.
+use Prim.Native.Nat.{ℕ, zero, suc, _≤_}
+use mathlib.Core.Path.{_≡_, refl, sym, ap, _∙_}
+use mathlib.Core.Bool.{Bool, true, false, cond}
+use mathlib.Core.Logic.{_⊎_, inl, inr}
+use mathlib.Core.List.{List, [], _∷_}
+use native.Mathlib.Omega.{arith}
+use lib.Dec.{eqb}
+use Rattle.reader.specs.Outcome.{Outcome, answered, refused, _>>=_}
+use Rattle.reader.specs.Parts.{partEnd, leftAt}
+use Rattle.reader.specs.declared.endianity.RunTimeEndian.{RunTimeEndian}
+use Rattle.reader.proofs.OutcomeLaws.{refused-answered, same-answer, bind-answered, cond-is}
+use Rattle.abbreviations.specs.Abbreviations.{Attribute, Attributes, Pair, pair, before, attributesIn, attributes}
+use Rattle.abbreviations.proofs.AbbreviationLaws.{pair-forward, pair-none}
+use Rattle.forms.specs.Forms.{Valued, formValue}
+use Rattle.forms.proofs.FormLaws as forms
+use Rattle.attributes.specs.declared.attribute.NameAttribute.{NameAttribute}
+use Rattle.attributes.specs.declared.attribute.FirstAttribute.{FirstAttribute}
+use Rattle.attributes.specs.declared.facts.Facts.{Facts}
+use Rattle.attributes.specs.declared.facts.ReadFacts.{ReadFacts}
+use Rattle.attributes.specs.Sanity.{ValuesDeclared, EntriesOnward}
+use Rattle.attributes.specs.Attributes.{Values, valueThen, values, first, compileUnitName, typeUnitName, dieOffsetName, parentName, typeHashName, facts, valuesIn, valuesFrom, factsRead, orElse, keptAs, kept, noFacts}
+
+-- a pair, its value, and the values after it
+abbrev turn : RunTimeEndian → List ℕ → ℕ → ℕ → Outcome Pair → (Pair → ℕ → Outcome Values) → Outcome Values
+turn order s at end o more = do
+  p ← o
+  cond (eqb (p .name) 0) (answered (record { list = []; next = at })) (do
+    v ← formValue (p .form) order s at end
+    rest ← more p (v .next)
+    answered (valueThen (p .name) (p .form) (v .value) rest))
+
+turn-same : (order : RunTimeEndian) (s : List ℕ) (at end : ℕ) (o : Outcome Pair) (f g : Pair → ℕ → Outcome Values)
+    → ((p : Pair) → o ≡ answered p → (next : ℕ) → f p next ≡ g p next) → turn order s at end o f ≡ turn order s at end o g
+turn-same order s at end (answered p) f g h = ap (cond (eqb (p .name) 0) _) (valued (formValue (p .form) order s at end))
+  where
+    valued : (o : Outcome Valued)
+        → (o >>= λ v. f p (v .next) >>= λ rest. answered (valueThen (p .name) (p .form) (v .value) rest))
+        ≡ (o >>= λ v. g p (v .next) >>= λ rest. answered (valueThen (p .name) (p .form) (v .value) rest))
+    valued (answered v) = rw (h p refl (v .next))
+    valued (refused n v) = refl
+turn-same order s at end (refused n v) f g h = refl
+
+-- any number of turns that is large enough gives the same
+values-turns : (k j : ℕ) (order : RunTimeEndian) (s : List ℕ) (pairs pairsEnd at end : ℕ) → leftAt s pairs pairsEnd ≤ k → leftAt s pairs pairsEnd ≤ j
+    → valuesIn k order s pairs pairsEnd at end ≡ valuesIn j order s pairs pairsEnd at end
+unfolding valuesIn
+values-turns zero zero order s pairs pairsEnd at end hk hj = refl
+values-turns zero (suc j) order s pairs pairsEnd at end hk hj = rw (pair-none s pairs pairsEnd (omega arith))
+values-turns (suc k) zero order s pairs pairsEnd at end hk hj = rw (pair-none s pairs pairsEnd (omega arith))
+values-turns (suc k) (suc j) order s pairs pairsEnd at end hk hj =
+    turn-same order s at end (pair s pairs pairsEnd) _ _ λ p e next.
+    let (ahead, inside) = pair-forward s pairs pairsEnd p e in
+    values-turns k j order s (p .next) pairsEnd next end (omega arith) (omega arith)
+
+-- the values are that of a pair and those after it
+turn-step : (order : RunTimeEndian) (s : List ℕ) (pairs pairsEnd at end : ℕ)
+    → valuesFrom order s pairs pairsEnd at end ≡ turn order s at end (pair s pairs pairsEnd) λ p next. valuesFrom order s (p .next) pairsEnd next end
+unfolding valuesFrom valuesIn
+turn-step order s pairs pairsEnd at end =
+    values-turns (leftAt s pairs pairsEnd) (suc (leftAt s pairs pairsEnd)) order s pairs pairsEnd at end (omega arith) (omega arith)
+    ∙ (turn-same order s at end (pair s pairs pairsEnd) _ _ λ p e next.
+    let (ahead, inside) = pair-forward s pairs pairsEnd p e in
+    values-turns (leftAt s pairs pairsEnd) (leftAt s (p .next) pairsEnd) order s (p .next) pairsEnd next end (omega arith) (omega arith))
+
+-- facts that were kept, and those of the attributes after them
+unfoldable pub keptAll : Facts → List NameAttribute → Facts
+keptAll f list = record {
+  «compile_unit» = orElse (f .«compile_unit») (first compileUnitName list);
+  «type_unit» = orElse (f .«type_unit») (first typeUnitName list);
+  «die_offset» = orElse (f .«die_offset») (first dieOffsetName list);
+  parent = orElse (f .parent) (first parentName list);
+  «type_hash» = orElse (f .«type_hash») (first typeHashName list);
+}
+
+or-none : (f : FirstAttribute) → orElse f FirstAttribute.None ≡ f
+unfolding orElse
+or-none (FirstAttribute.Some a) = refl
+or-none FirstAttribute.None = refl
+
+-- an attribute that was kept, or counts now, comes before those after it
+or-first : (name : ℕ) (f : FirstAttribute) (a : NameAttribute) (list : List NameAttribute) → orElse (keptAs name f a) (first name list) ≡ orElse f (first name (a ∷ list))
+unfolding orElse first
+or-first name f a list = by-cases (eqb (a .name) name) f
+  where
+    by-cases : (t : Bool) (f : FirstAttribute)
+        → orElse (cond t (orElse f (FirstAttribute.Some a)) f) (first name list) ≡ orElse f (cond t (FirstAttribute.Some a) (first name list))
+    by-cases true (FirstAttribute.Some b) = refl
+    by-cases true FirstAttribute.None = refl
+    by-cases false f = refl
+
+kept-none : (f : Facts) → keptAll f [] ≡ f
+unfolding keptAll first
+kept-none f = rw (or-none (f .«compile_unit»), or-none (f .«type_unit»), or-none (f .«die_offset»), or-none (f .parent), or-none (f .«type_hash»))
+
+kept-more : (f : Facts) (a : NameAttribute) (list : List NameAttribute) → keptAll f (a ∷ list) ≡ keptAll (kept f a) list
+unfolding keptAll kept
+kept-more f a list =
+    rw (
+      ← or-first compileUnitName (f .«compile_unit») a list,
+      ← or-first typeUnitName (f .«type_unit») a list,
+      ← or-first dieOffsetName (f .«die_offset») a list,
+      ← or-first parentName (f .parent) a list,
+      ← or-first typeHashName (f .«type_hash») a list,
+    )
+
+-- facts so far, and what is left to read
+unfoldable pub factsFrom : Facts → RunTimeEndian → List ℕ → ℕ → ℕ → ℕ → ℕ → Outcome ReadFacts
+factsFrom f order s pairs pairsEnd at end = do
+  v ← valuesFrom order s pairs pairsEnd at end
+  answered (record { facts = keptAll f (v .list); next = v .next })
+
+pub facts-start : (order : RunTimeEndian) (s : List ℕ) (pairs pairsEnd at end : ℕ) → factsRead order s pairs pairsEnd at end ≡ factsFrom noFacts order s pairs pairsEnd at end
+unfolding factsRead factsFrom facts keptAll noFacts first orElse
+facts-start order s pairs pairsEnd at end = refl
+
+-- one attribute, in the order of the code
+pub facts-step : (f : Facts) (order : RunTimeEndian) (s : List ℕ) (pairs pairsEnd at end : ℕ) → factsFrom f order s pairs pairsEnd at end ≡ (do
+  p ← pair s pairs pairsEnd
+  cond (eqb (p .name) 0) (answered (record { facts = f; next = at })) (do
+    v ← formValue (p .form) order s at end
+    factsFrom (kept f (record { name = p .name; form = p .form; value = v .value })) order s (p .next) pairsEnd (v .next) end))
+unfolding factsFrom
+facts-step f order s pairs pairsEnd at end = rw (turn-step order s pairs pairsEnd at end) (by-pair (pair s pairs pairsEnd))
+  where
+    handed : Facts → Values → Outcome ReadFacts
+    handed f v = answered (record { facts = keptAll f (v .list); next = v .next })
+
+    by-rest : (a : NameAttribute) (o : Outcome Values)
+        → ((o >>= λ rest. answered (valueThen (a .name) (a .form) (a .value) rest)) >>= handed f) ≡ (o >>= handed (kept f a))
+    by-rest a (answered rest) = rw (kept-more f a (rest .list))
+    by-rest a (refused n v) = refl
+
+    by-value : (p : Pair) (o : Outcome Valued)
+        → ((o >>= λ v. valuesFrom order s (p .next) pairsEnd (v .next) end >>= λ rest. answered (valueThen (p .name) (p .form) (v .value) rest)) >>= handed f)
+        ≡ (o >>= λ v. valuesFrom order s (p .next) pairsEnd (v .next) end >>= handed (kept f (record { name = p .name; form = p .form; value = v .value })))
+    by-value p (answered v) = by-rest (record { name = p .name; form = p .form; value = v .value }) (valuesFrom order s (p .next) pairsEnd (v .next) end)
+    by-value p (refused n v) = refl
+
+    by-name : (t : Bool) (p : Pair)
+        → (cond t (answered (record { list = []; next = at })) (formValue (p .form) order s at end >>= λ v. valuesFrom order s (p .next) pairsEnd (v .next) end >>= λ rest. answered (valueThen (p .name) (p .form) (v .value) rest)) >>= handed f)
+        ≡ cond t (answered (record { facts = f; next = at })) (formValue (p .form) order s at end >>= λ v. valuesFrom order s (p .next) pairsEnd (v .next) end >>= handed (kept f (record { name = p .name; form = p .form; value = v .value })))
+    by-name true p = rw (kept-none f)
+    by-name false p = by-value p (formValue (p .form) order s at end)
+
+    by-pair : (o : Outcome Pair)
+        → (turn order s at end o (λ p next. valuesFrom order s (p .next) pairsEnd next end) >>= handed f)
+        ≡ (o >>= λ p. cond (eqb (p .name) 0) (answered (record { facts = f; next = at })) (formValue (p .form) order s at end >>= λ v. valuesFrom order s (p .next) pairsEnd (v .next) end >>= handed (kept f (record { name = p .name; form = p .form; value = v .value }))))
+    by-pair (answered p) = by-name (eqb (p .name) 0) p
+    by-pair (refused n v) = refl
+
+-- with the same number of turns, pairs that can all be read give the values of their attributes
+values-declared-in : (k : ℕ) (order : RunTimeEndian) (s : List ℕ) (pairs pairsEnd : ℕ) (a : Attributes) (at end : ℕ) → attributesIn k s pairs pairsEnd ≡ answered a
+    → valuesIn k order s pairs pairsEnd at end ≡ values order s (a .list) at end
+unfolding attributesIn valuesIn values
+values-declared-in zero order s pairs pairsEnd a at end e = absurd (refused-answered e)
+values-declared-in (suc k) order s pairs pairsEnd a at end e =
+    let (p, one, rest) = bind-answered (pair s pairs pairsEnd) _ a e in
+    rw one (chosen p (λ b at. values-declared-in k order s (p .next) pairsEnd b at end) (cond-is (eqb (p .name) 0) _ _ (answered a) rest))
+  where
+    by-value : (p : Pair) (b : Attributes) → attributesIn k s (p .next) pairsEnd ≡ answered b
+        → ((b : Attributes) (at : ℕ) → attributesIn k s (p .next) pairsEnd ≡ answered b → valuesIn k order s (p .next) pairsEnd at end ≡ values order s (b .list) at end)
+        → (o : Outcome Valued)
+        → (o >>= λ v. valuesIn k order s (p .next) pairsEnd (v .next) end >>= λ rest. answered (valueThen (p .name) (p .form) (v .value) rest))
+        ≡ (o >>= λ v. values order s (b .list) (v .next) end >>= λ rest. answered (valueThen (p .name) (p .form) (v .value) rest))
+    by-value p b read more (answered v) = rw (more b (v .next) read)
+    by-value p b read more (refused n v) = refl
+
+    chosen : (p : Pair)
+        → ((b : Attributes) (at : ℕ) → attributesIn k s (p .next) pairsEnd ≡ answered b → valuesIn k order s (p .next) pairsEnd at end ≡ values order s (b .list) at end)
+        → ((eqb (p .name) 0 ≡ true) × (answered (record { list = []; next = p .next }) ≡ answered a))
+        ⊎ ((eqb (p .name) 0 ≡ false) × ((attributesIn k s (p .next) pairsEnd >>= λ rest. answered (before p rest)) ≡ answered a))
+        → cond (eqb (p .name) 0) (answered (record { list = []; next = at }))
+        (formValue (p .form) order s at end >>= λ v. valuesIn k order s (p .next) pairsEnd (v .next) end >>= λ rest. answered (valueThen (p .name) (p .form) (v .value) rest))
+        ≡ values order s (a .list) at end
+    chosen p more (inl (last, same)) = rw (last, ← same-answer same) refl
+    chosen p more (inr (not-last, on)) =
+        let (b, read, same) = bind-answered (attributesIn k s (p .next) pairsEnd) _ a on in
+        rw (not-last, ← same-answer same) (by-value p b read more (formValue (p .form) order s at end))
+
+pub values-declared : ValuesDeclared
+unfolding attributes valuesFrom
+values-declared order s pairs pairsEnd a at end e = values-declared-in (leftAt s pairs pairsEnd) order s pairs pairsEnd a at end e
+
+-- so the facts are those of the declaration's attributes
+pub facts-declared : (order : RunTimeEndian) (s : List ℕ) (pairs pairsEnd : ℕ) (a : Attributes) (at end : ℕ) → attributes s pairs pairsEnd ≡ answered a
+    → factsRead order s pairs pairsEnd at end ≡ (values order s (a .list) at end >>= λ v. answered (record { facts = facts (v .list); next = v .next }))
+unfolding factsRead
+facts-declared order s pairs pairsEnd a at end e = rw (values-declared order s pairs pairsEnd a at end e)
+
+pub entries-onward : EntriesOnward
+unfolding values
+entries-onward order s [] at end v inside e =
+    let past : v .next ≡ at = ap (λ v. v .next) (sym (same-answer e)) in
+    (omega arith, omega arith)
+entries-onward order s (a ∷ more) at end v inside e =
+    let (one, read, rest) = bind-answered (formValue (a .form) order s at end) _ v e in
+    let (others, read-others, same) = bind-answered (values order s more (one .next) end) _ v rest in
+    let (ahead, within) = forms.values-onward (a .form) order s at end one inside read in
+    let (further, still) = entries-onward order s more (one .next) end others within read-others in
+    let past : v .next ≡ others .next = ap (λ v. v .next) (sym (same-answer same)) in
+    (omega arith, omega arith)

@@ -1,0 +1,4 @@
+-- Laws of the definitions. Callers cite these, and do not unfold.
+pub mod EntryLaws
+pub mod SeriesLaws
+pub mod FactLaws
