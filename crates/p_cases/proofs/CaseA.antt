@@ -3,10 +3,10 @@ use mathlib.Core.Path.{refl}
 use native.Mathlib.Omega.{arith}
 use Rattle.reader.specs.Errors.{longest}
 use Rattle.reader.specs.Parts.{skipped, cut}
-use Rattle.reader.specs.Numbers.{digits, spelled, readNumber, initialLength}
+use Rattle.reader.specs.Numbers.{digits, spelled, readNumber, readByte, initialLength}
 use Rattle.reader.specs.Leb128.{leb128, numberOfBytes, numberBytes, someBeyond, beyond, complete, base128}
 use Rattle.reader.specs.Strings.{beforeZero, zeroFrom, getStr, textBytes}
-use Rattle.reader.specs.Listing.{listing}
+use Rattle.reader.specs.Listing.{listing, answersOf}
 use Rattle.abbreviations.specs.Abbreviations.{pair, attributesIn, attributes, head, withAttributes, declaration, table, ending, parsed, find, found}
 use Rattle.index.specs.Header.{headerCut, counts, augmentation, headerBody, header}
 use Rattle.index.specs.Layout.{wordBytes, hashBytes, sizes, placesFrom, place, parts, fitted}
@@ -14,7 +14,13 @@ use Rattle.index.specs.Open.{indexOf, passedOver, cutParts, nameIndex}
 use Rattle.names.specs.Units.{nthWord, unitIn, compileUnit}
 use Rattle.names.specs.Names.{nameStringOffset, nameString, nameStringBytes}
 use Rattle.names.specs.Declarations.{getAbbreviation}
-use Rattle.p_cases.specs.CaseA.{caseA, stringsA, headerA, indexA, partsA, HeaderOfA, OpensA, PartsOfA, FitsA, UnitsOfA, StringsOfA, BytesOfA, AbbreviationsOfA}
+use Rattle.forms.specs.Forms.{asFlag, asUnsigned, asOffset, formValue}
+use Rattle.attributes.specs.Attributes.{values, first}
+use Rattle.attributes.specs.Meaning.{dieOffset, dieOffsetIn, parentOf}
+use Rattle.entries.specs.Entries.{entry, nameEntry}
+use Rattle.entries.specs.Series.{seriesStart, seriesEntry, entriesFrom, series, nameEntries}
+use Rattle.entries.specs.Facts.{entryDieOffset, entryParent}
+use Rattle.p_cases.specs.CaseA.{caseA, stringsA, headerA, indexA, partsA, HeaderOfA, OpensA, PartsOfA, FitsA, UnitsOfA, StringsOfA, BytesOfA, AbbreviationsOfA, CursorsOfA, SeriesOfA, FactsOfA}
 
 pub header-of-a : HeaderOfA
 unfolding caseA headerA header headerCut headerBody counts augmentation initialLength readNumber skipped cut spelled digits
@@ -47,3 +53,15 @@ bytes-of-a = refl
 pub abbreviations-of-a : AbbreviationsOfA
 unfolding caseA indexA getAbbreviation found find table listing declaration withAttributes head attributes attributesIn pair leb128 numberOfBytes numberBytes someBeyond beyond complete base128 fitted parts place placesFrom sizes wordBytes hashBytes longest
 abbreviations-of-a = refl
+
+pub cursors-of-a : CursorsOfA
+unfolding caseA indexA nameEntries seriesStart nthWord fitted parts place placesFrom sizes wordBytes hashBytes longest readNumber skipped spelled digits
+cursors-of-a = refl
+
+pub series-of-a : SeriesOfA
+unfolding caseA indexA series seriesStart seriesEntry entriesFrom answersOf nthWord entry values first formValue asFlag asUnsigned asOffset readByte find table listing declaration withAttributes head attributes attributesIn pair leb128 numberOfBytes numberBytes someBeyond beyond complete base128 fitted parts place placesFrom sizes wordBytes hashBytes longest readNumber skipped spelled digits
+series-of-a = refl
+
+pub facts-of-a : FactsOfA
+unfolding caseA indexA entryDieOffset entryParent dieOffset dieOffsetIn parentOf entry nameEntry values first formValue asFlag asUnsigned asOffset readByte find table listing declaration withAttributes head attributes attributesIn pair leb128 numberOfBytes numberBytes someBeyond beyond complete base128 fitted parts place placesFrom sizes wordBytes hashBytes longest readNumber skipped spelled digits
+facts-of-a = (refl, refl)

@@ -1,8 +1,9 @@
--- Document 01's case A: its bytes, what the definitions say of its header, its parts, its units, its names and its abbreviations, and
--- that it fits, so that the theorems which suppose this speak of a real index.
+-- Document 01's case A: its bytes, what the definitions say of its header, its parts, its units, its names, its abbreviations and its
+-- entries, that it fits, and that `name_entries` gives a cursor, so that the theorems which suppose this speak of a real index.
 use Prim.Native.Nat.{ℕ, _≤_}
 use mathlib.Core.Path.{_≡_}
 use mathlib.Core.List.{List, [], _∷_}
+use mathlib.Core.Option.{Option, some}
 use lib.ListN.{length}
 use Rattle.reader.specs.Outcome.{Outcome, answered, refused}
 use Rattle.reader.specs.Errors.{longest}
@@ -20,6 +21,16 @@ use Rattle.index.specs.Open.{nameIndex}
 use Rattle.names.specs.Units.{compileUnit}
 use Rattle.names.specs.Names.{nameString, nameStringBytes}
 use Rattle.names.specs.Declarations.{getAbbreviation}
+use Rattle.reader.specs.Listing.{answersOf}
+use Rattle.attributes.specs.declared.attribute.DieOffset.{DieOffset}
+use Rattle.attributes.specs.declared.attribute.EntryParent.{EntryParent}
+use Rattle.entries.specs.declared.series.EntriesRead.{EntriesRead}
+use Rattle.entries.specs.declared.series.NameEntryIter.{NameEntryIter}
+use Rattle.entries.specs.declared.entry.NameEntry.{NameEntry}
+use Rattle.entries.specs.Answers.{entriesOutcome}
+use Rattle.entries.specs.Entries.{handed}
+use Rattle.entries.specs.Series.{series, nameEntries}
+use Rattle.entries.specs.Facts.{entryDieOffset, entryParent}
 
 -- the bytes, a line for each sentence of document 01: the length; the version and its padding; C; L; F; B; N; A; the augmentation;
 -- the unit; the starts; the hashes; the strings; the entry offsets; the abbreviations; the pool
@@ -129,3 +140,32 @@ abbrev pub AbbreviationsOfA : Type 0
 AbbreviationsOfA =
     getAbbreviation 1 caseA indexA ∷ getAbbreviation 2 caseA indexA ∷ []
     ≡ answered (Abbreviation.Found (record { code = 1; tag = 0x2e; attributes = 86; next = 90 })) ∷ answered Abbreviation.NotFound ∷ []
+
+-- the names' cursors are at 91, 97 and 103, which is what `EntryLookups` supposes; 3 is refused at the end of the entry offsets, and 4 at
+-- their start
+abbrev pub entriesOfA : ℕ → Outcome NameEntryIter
+entriesOfA k = nameEntries RunTimeEndian.Little caseA indexA (record { 0 = k })
+
+abbrev pub cursorOfA : ℕ → Outcome NameEntryIter
+cursorOfA place = entriesOutcome (EntriesRead.Value (record { at = place }))
+
+abbrev pub CursorsOfA : Type 0
+CursorsOfA =
+    entriesOfA 0 ∷ entriesOfA 1 ∷ entriesOfA 2 ∷ entriesOfA 3 ∷ entriesOfA 4 ∷ []
+    ≡ cursorOfA 91 ∷ cursorOfA 97 ∷ cursorOfA 103 ∷ refused 1 84 ∷ refused 1 72 ∷ []
+
+-- each name has one entry, at 0, 6 and 12, with code 1 and tag 0x2e; a code 0 ends its series
+abbrev pub seriesOfA : ℕ → List (Outcome (Option NameEntry))
+seriesOfA k = answersOf handed (series RunTimeEndian.Little caseA indexA (record { 0 = k }))
+
+abbrev pub entryAt : ℕ → List (Outcome (Option NameEntry))
+entryAt offset = answered (some (record { offset = record { 0 = offset }; «abbrev_code» = 1; tag = 0x2e })) ∷ []
+
+abbrev pub SeriesOfA : Type 0
+SeriesOfA = seriesOfA 0 ∷ seriesOfA 1 ∷ seriesOfA 2 ∷ [] ≡ entryAt 0 ∷ entryAt 6 ∷ entryAt 12 ∷ []
+
+-- the DIE of entry 6 is at 0x20, and its parent is not known
+abbrev pub FactsOfA : Type 0
+FactsOfA =
+    (entryDieOffset RunTimeEndian.Little caseA indexA (record { 0 = 6 }) ≡ answered (DieOffset.Some (record { 0 = 0x20 })))
+    × (entryParent RunTimeEndian.Little caseA indexA (record { 0 = 6 }) ≡ answered EntryParent.NotKnown)

@@ -7,10 +7,15 @@ use lib.ListN.{length, replicate}
 use Rattle.reader.specs.Outcome.{Outcome, answered, refused}
 use Rattle.reader.specs.Numbers.{Read}
 use Rattle.reader.specs.Leb128.{leb128, unsignedLimit, u16Limit}
+use Rattle.reader.specs.declared.endianity.RunTimeEndian.{RunTimeEndian}
+use Rattle.entries.specs.declared.entry.NameEntry.{NameEntry}
+use Rattle.entries.specs.Entries.{nameEntryHanded}
+use Rattle.p_cases.specs.CaseA.{caseA, indexA}
 
 -- what a case asks for
 pub data Answer : Type 0 where
   number : Outcome Read → Answer
+  entry : Outcome NameEntry → Answer
 
 -- `leb128::read::unsigned` and `leb128::read::u16` at the start of these bytes
 abbrev unsigned : List ℕ → Answer
@@ -19,21 +24,32 @@ unsigned s = number (leb128 unsignedLimit s 0 (length s))
 abbrev u16 : List ℕ → Answer
 u16 s = number (leb128 u16Limit s 0 (length s))
 
+-- `name_entry` in case A
+abbrev entryOfA : ℕ → Answer
+entryOfA offset = entry (nameEntryHanded RunTimeEndian.Little caseA indexA (record { 0 = offset }))
+
 abbrev pub given : List Answer
 given =
     unsigned (replicate 9 0xff ++ 0x01 ∷ [])
     ∷ unsigned (replicate 9 0xff ++ 0x02 ∷ [])
     ∷ u16 (0xff ∷ 0xff ∷ 0x03 ∷ [])
     ∷ u16 (0xff ∷ 0xff ∷ 0x04 ∷ [])
+    ∷ entryOfA 5
+    ∷ entryOfA 18
+    ∷ entryOfA 19
     ∷ []
 
--- nine ff then 01 is 2^64-1, then 02 is 7; as u16, ff ff 03 is 65535, ff ff 04 is 7
+-- nine ff then 01 is 2^64-1, then 02 is 7; as u16, ff ff 03 is 65535, ff ff 04 is 7; entry 5 is 10; entry 18 is 1 at 109; entry 19
+-- is 1 at 91
 abbrev pub expected : List Answer
 expected =
     number (answered (record { value = 18446744073709551615; next = 10 }))
     ∷ number (refused 7 0)
     ∷ number (answered (record { value = 65535; next = 3 }))
     ∷ number (refused 7 0)
+    ∷ entry (refused 10 5)
+    ∷ entry (refused 1 109)
+    ∷ entry (refused 1 91)
     ∷ []
 
 -- the theorem

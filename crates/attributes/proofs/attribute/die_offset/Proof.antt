@@ -2,7 +2,6 @@
 -- Assumes nothing.
 use borrow.Author.Needs.{needs}
 use Rattle.attributes.specs.Meaning.{dieOffset, dieOffsetIn}
-use Rattle.attributes.specs.Attributes.{first}
 use Rattle.attributes.proofs.attribute.die_offset.Statement.{statement}
 use Rattle.attributes.proofs.attribute.die_offset.Tie as tie
 
@@ -13,7 +12,7 @@ enum-told : tie.Need-enum-told
 enum-told c = search needs
 
 returns : tie.Need-returns
-unfolding dieOffset first dieOffsetIn
+unfolding dieOffset dieOffsetIn
 returns c =
     rw
     (c .enum-told .given .1)
@@ -28,7 +27,7 @@ enum-told-3 : tie.Need-enum-told-3
 enum-told-3 c = search needs
 
 returns-2 : tie.Need-returns-2
-unfolding dieOffset first dieOffsetIn
+unfolding dieOffset dieOffsetIn
 returns-2 c =
     rw (
       c .before .before .before .before .first .given .1,
@@ -36,7 +35,7 @@ returns-2 c =
     )
 
 returns-3 : tie.Need-returns-3
-unfolding dieOffset first dieOffsetIn
+unfolding dieOffset dieOffsetIn
 returns-3 c =
     rw (
       c .before .before .before .first .given .1,
@@ -44,7 +43,7 @@ returns-3 c =
     )
 
 returns-4 : tie.Need-returns-4
-unfolding dieOffset first dieOffsetIn
+unfolding dieOffset dieOffsetIn
 returns-4 c =
     rw (
       c .before .before .before .first .given .1,

@@ -1,7 +1,6 @@
 -- `attributes::attribute::parent` meets its contract: each answer is the definition's, by the calls and the tests that led there.
 -- Assumes nothing.
 use borrow.Author.Needs.{needs}
-use Rattle.attributes.specs.Attributes.{first}
 use Rattle.attributes.specs.Meaning.{parentOf, parentIn}
 use Rattle.attributes.proofs.attribute.parent.Statement.{statement}
 use Rattle.attributes.proofs.attribute.parent.Tie as tie
@@ -13,7 +12,7 @@ enum-told : tie.Need-enum-told
 enum-told c = search needs
 
 returns : tie.Need-returns
-unfolding first parentOf parentIn
+unfolding parentOf parentIn
 returns c =
     rw
     (c .enum-told .given .1)
@@ -25,7 +24,7 @@ enum-known-value-2 : tie.Need-enum-known-value-2
 enum-known-value-2 c = search needs
 
 returns-2 : tie.Need-returns-2
-unfolding first parentOf parentIn
+unfolding parentOf parentIn
 returns-2 c =
     rw (
       c .before .before .before .before .before .first .given .1,
@@ -37,7 +36,7 @@ enum-told-2 : tie.Need-enum-told-2
 enum-told-2 c = search needs
 
 returns-3 : tie.Need-returns-3
-unfolding first parentOf parentIn
+unfolding parentOf parentIn
 returns-3 c =
     rw (
       c .before .before .before .before .first .given .1,
@@ -45,7 +44,7 @@ returns-3 c =
     )
 
 returns-4 : tie.Need-returns-4
-unfolding first parentOf parentIn
+unfolding parentOf parentIn
 returns-4 c =
     rw (
       c .before .before .before .before .before .first .given .1,
@@ -54,7 +53,7 @@ returns-4 c =
     )
 
 returns-5 : tie.Need-returns-5
-unfolding first parentOf parentIn
+unfolding parentOf parentIn
 returns-5 c =
     rw (
       c .before .before .before .first .given .1,

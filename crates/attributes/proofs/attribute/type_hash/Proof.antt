@@ -1,7 +1,6 @@
 -- `attributes::attribute::type_hash` meets its contract: each answer is the definition's, by the calls and the tests that led there.
 -- Assumes nothing.
 use borrow.Author.Needs.{needs}
-use Rattle.attributes.specs.Attributes.{first}
 use Rattle.attributes.specs.Meaning.{typeHash, typeHashIn}
 use Rattle.attributes.proofs.attribute.type_hash.Statement.{statement}
 use Rattle.attributes.proofs.attribute.type_hash.Tie as tie
@@ -13,7 +12,7 @@ enum-told : tie.Need-enum-told
 enum-told c = search needs
 
 returns : tie.Need-returns
-unfolding first typeHash typeHashIn
+unfolding typeHash typeHashIn
 returns c =
     rw
     (c .enum-told .given .1)
@@ -28,7 +27,7 @@ enum-told-3 : tie.Need-enum-told-3
 enum-told-3 c = search needs
 
 returns-2 : tie.Need-returns-2
-unfolding first typeHash typeHashIn
+unfolding typeHash typeHashIn
 returns-2 c =
     rw (
       c .before .before .before .before .first .given .1,
@@ -36,7 +35,7 @@ returns-2 c =
     )
 
 returns-3 : tie.Need-returns-3
-unfolding first typeHash typeHashIn
+unfolding typeHash typeHashIn
 returns-3 c =
     rw (
       c .before .before .before .first .given .1,
@@ -44,7 +43,7 @@ returns-3 c =
     )
 
 returns-4 : tie.Need-returns-4
-unfolding first typeHash typeHashIn
+unfolding typeHash typeHashIn
 returns-4 c =
     rw (
       c .before .before .before .first .given .1,

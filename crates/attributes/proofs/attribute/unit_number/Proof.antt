@@ -2,7 +2,6 @@
 -- Assumes nothing.
 use borrow.Author.Needs.{needs}
 use borrow.Author.Tests.{le-ltb, lt-ltb}
-use Rattle.attributes.specs.Attributes.{first}
 use Rattle.attributes.specs.Meaning.{unitNumber, unitNumberIn}
 use Rattle.attributes.proofs.attribute.unit_number.Statement.{statement}
 use Rattle.attributes.proofs.attribute.unit_number.Tie as tie
@@ -14,7 +13,7 @@ enum-told : tie.Need-enum-told
 enum-told c = search needs
 
 returns : tie.Need-returns
-unfolding first unitNumber unitNumberIn
+unfolding unitNumber unitNumberIn
 returns c =
     rw
     (c .enum-told .given .1)
@@ -23,7 +22,7 @@ enum-known-value : tie.Need-enum-known-value
 enum-known-value c = search needs
 
 returns-2 : tie.Need-returns-2
-unfolding first unitNumber unitNumberIn
+unfolding unitNumber unitNumberIn
 returns-2 c =
     rw (
       c .before .before .before .before .before .first .given .1,
@@ -41,7 +40,7 @@ enum-told-3 : tie.Need-enum-told-3
 enum-told-3 c = search needs
 
 returns-3 : tie.Need-returns-3
-unfolding first unitNumber unitNumberIn
+unfolding unitNumber unitNumberIn
 returns-3 c =
     rw (
       c .before .before .before .before .before .first .given .1,
@@ -50,7 +49,7 @@ returns-3 c =
     )
 
 returns-4 : tie.Need-returns-4
-unfolding first unitNumber unitNumberIn
+unfolding unitNumber unitNumberIn
 returns-4 c =
     rw (
       c .before .before .before .first .given .1,
@@ -58,7 +57,7 @@ returns-4 c =
     )
 
 returns-5 : tie.Need-returns-5
-unfolding first unitNumber unitNumberIn
+unfolding unitNumber unitNumberIn
 returns-5 c =
     rw (
       c .before .before .before .first .given .1,
