@@ -80,7 +80,7 @@ pub fn unit_number(first: FirstAttribute) -> UnitNumberRead
         FirstAttribute::Some(a) => a,
         FirstAttribute::None => return UnitNumberRead::Value(UnitNumber::None),
     };
-    let form = a.form;
+    let wrong = Error::UnsupportedAttributeForm(a.form);
     let value = a.value;
     match value {
         NameAttributeValue::Unsigned(n) => {
@@ -89,12 +89,8 @@ pub fn unit_number(first: FirstAttribute) -> UnitNumberRead
             }
             UnitNumberRead::Value(UnitNumber::Some(n as u32))
         }
-        NameAttributeValue::Offset(_) => UnitNumberRead::Refused(Error::UnsupportedAttributeForm(
-            form,
-        )),
-        NameAttributeValue::Flag(_) => UnitNumberRead::Refused(Error::UnsupportedAttributeForm(
-            form,
-        )),
+        NameAttributeValue::Offset(_) => UnitNumberRead::Refused(wrong),
+        NameAttributeValue::Flag(_) => UnitNumberRead::Refused(wrong),
     }
 }
 
@@ -106,16 +102,12 @@ pub fn die_offset(first: FirstAttribute) -> DieOffsetRead
         FirstAttribute::Some(a) => a,
         FirstAttribute::None => return DieOffsetRead::Value(DieOffset::None),
     };
-    let form = a.form;
+    let wrong = Error::UnsupportedAttributeForm(a.form);
     let value = a.value;
     match value {
         NameAttributeValue::Offset(n) => DieOffsetRead::Value(DieOffset::Some(UnitOffset(n))),
-        NameAttributeValue::Unsigned(_) => DieOffsetRead::Refused(Error::UnsupportedAttributeForm(
-            form,
-        )),
-        NameAttributeValue::Flag(_) => DieOffsetRead::Refused(Error::UnsupportedAttributeForm(
-            form,
-        )),
+        NameAttributeValue::Unsigned(_) => DieOffsetRead::Refused(wrong),
+        NameAttributeValue::Flag(_) => DieOffsetRead::Refused(wrong),
     }
 }
 
@@ -127,7 +119,7 @@ pub fn parent(first: FirstAttribute) -> ParentRead
         FirstAttribute::Some(a) => a,
         FirstAttribute::None => return ParentRead::Value(EntryParent::NotKnown),
     };
-    let form = a.form;
+    let wrong = Error::UnsupportedAttributeForm(a.form);
     let value = a.value;
     match value {
         NameAttributeValue::Offset(n) => ParentRead::Value(EntryParent::Entry(NameEntryOffset(n))),
@@ -135,11 +127,9 @@ pub fn parent(first: FirstAttribute) -> ParentRead
             if alone {
                 return ParentRead::Value(EntryParent::NoParent);
             }
-            ParentRead::Refused(Error::UnsupportedAttributeForm(form))
+            ParentRead::Refused(wrong)
         }
-        NameAttributeValue::Unsigned(_) => ParentRead::Refused(Error::UnsupportedAttributeForm(
-            form,
-        )),
+        NameAttributeValue::Unsigned(_) => ParentRead::Refused(wrong),
     }
 }
 
@@ -151,13 +141,11 @@ pub fn type_hash(first: FirstAttribute) -> TypeHashRead
         FirstAttribute::Some(a) => a,
         FirstAttribute::None => return TypeHashRead::Value(TypeHash::None),
     };
-    let form = a.form;
+    let wrong = Error::UnsupportedAttributeForm(a.form);
     let value = a.value;
     match value {
         NameAttributeValue::Unsigned(n) => TypeHashRead::Value(TypeHash::Some(n)),
-        NameAttributeValue::Offset(_) => TypeHashRead::Refused(Error::UnsupportedAttributeForm(
-            form,
-        )),
-        NameAttributeValue::Flag(_) => TypeHashRead::Refused(Error::UnsupportedAttributeForm(form)),
+        NameAttributeValue::Offset(_) => TypeHashRead::Refused(wrong),
+        NameAttributeValue::Flag(_) => TypeHashRead::Refused(wrong),
     }
 }

@@ -1,5 +1,6 @@
 // Header steps from the start of a section up to the end, and all calls on the index of each header.
 use crate::line;
+use crate::pool;
 use crate::strings;
 use crate::table;
 use crate::units;
@@ -89,6 +90,7 @@ fn open(order: RunTimeEndian, s: &[u8], strings: &[u8], h: NameIndexHeader) {
             units::units(order, s, i);
             strings::strings(order, s, strings, i);
             table::abbreviations(s, i);
+            pool::entries(order, s, i);
         }
         IndexRead::Refused(e) => show::refused(e),
     }

@@ -6,6 +6,7 @@
 // buffer holds: it is read a section at a time.
 mod headers; // header steps, and the index of each header
 mod line; // parts of a line
+mod pool; // the series of each name, and entries and their facts by handle
 mod strings; // names, their offsets and their strings
 mod table; // the abbreviations by code
 mod units; // counts and units

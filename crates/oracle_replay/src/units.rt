@@ -142,7 +142,7 @@ fn either(r: TypeUnitRead) {
     }
 }
 
-fn type_unit_line(u: NameTypeUnit) {
+pub fn type_unit_line(u: NameTypeUnit) {
     match u {
         NameTypeUnit::Local(o) => {
             show::text(b" local");

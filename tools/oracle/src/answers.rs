@@ -1,18 +1,19 @@
 //! gimli's answers to all calls on a case, as lines of text. README.md has the form of the lines; the program
 //! crates/oracle_replay writes the same lines from this project's library.
 //!
-//! To add calls (buckets, hashes, entries): a function here that asks gimli and writes a line for each call, called from `opened`,
-//! and the same lines in the same order in crates/oracle_replay.
+//! To add calls (buckets, hashes): a function here that asks gimli and writes a line for each call, called from `opened`, and the same
+//! lines in the same order in crates/oracle_replay. `pool` has those on entries.
 
 use std::collections::BTreeMap;
 use std::fmt::Display;
 
 use crate::case::Case;
 use crate::lent::{Bytes, Lent, Memory};
+use crate::pool;
 use gimli::{DebugNames, DebugStr, NameAbbreviation, NameIndex, NameIndexHeader, NameTableIndex, NameTypeUnit};
 
 /// A damaged section may claim many units or names: no more than this many of a list are asked for, and the two after them.
-const MOST: u32 = 40;
+pub const MOST: u32 = 40;
 
 /// The codes that are searched for in each abbreviation table.
 const CODES: [u64; 8] = [0, 1, 2, 3, 127, 128, 300, u64::MAX];
@@ -25,17 +26,17 @@ pub struct Answers {
 }
 
 impl Answers {
-    fn line(&mut self, line: &str) {
+    pub fn line(&mut self, line: &str) {
         self.text += line;
         self.text.push('\n');
     }
 
-    fn count(&mut self, call: &str, number: u8) {
+    pub fn count(&mut self, call: &str, number: u8) {
         *self.tally.entry((call.to_string(), number)).or_default() += 1;
     }
 
     /// The line of a call: its words, then the answer or the refusal.
-    fn call<T: Display>(&mut self, lent: &Lent, name: &str, argument: &str, answer: gimli::Result<T>) {
+    pub fn call<T: Display>(&mut self, lent: &Lent, name: &str, argument: &str, answer: gimli::Result<T>) {
         let mut line = format!("{name}{argument}");
         match answer {
             Ok(value) => {
@@ -133,6 +134,7 @@ fn opened(lent: &Lent, index: &NameIndex<Bytes>, out: &mut Answers) {
     names(index, out);
     strings(lent, index, out);
     abbreviations(index, out);
+    pool::entries(lent, index, out);
 }
 
 fn counts(index: &NameIndex<Bytes>, out: &mut Answers) {
@@ -161,16 +163,22 @@ fn units(lent: &Lent, index: &NameIndex<Bytes>, out: &mut Answers) {
         index.foreign_type_unit(number).map(|signature| signature.0)
     });
     out.numbered(lent, "type_unit", local + foreign, |number| {
-        index.type_unit(number).map(|unit| match unit {
-            NameTypeUnit::Local(offset) => format!("local {}", offset.0),
-            NameTypeUnit::Foreign(signature) => format!("foreign {}", signature.0),
-        })
+        index.type_unit(number).map(type_unit)
     });
-    let default = index.default_compile_unit().map(|unit| match unit {
-        Some(offset) => offset.0.to_string(),
-        None => "-".to_string(),
-    });
+    let default = index.default_compile_unit().map(|unit| or_none(unit.map(|offset| offset.0)));
     out.call(lent, "default_compile_unit", "", default);
+}
+
+pub fn type_unit(unit: NameTypeUnit<usize>) -> String {
+    match unit {
+        NameTypeUnit::Local(offset) => format!("local {}", offset.0),
+        NameTypeUnit::Foreign(signature) => format!("foreign {}", signature.0),
+    }
+}
+
+/// What there is, or a dash.
+pub fn or_none<T: Display>(value: Option<T>) -> String {
+    value.map_or("-".to_string(), |value| value.to_string())
 }
 
 /// The numbers that the iterator over names gives, on one line.

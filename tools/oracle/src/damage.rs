@@ -1,13 +1,16 @@
 //! Damaged sections: a valid one with something wrong in it. Some damages are done to the parts, so that all the rest still fits,
 //! and some to the bytes.
 
-use crate::bytes::Writer;
+use crate::bytes::{Writer, leb128};
 use crate::case::Case;
 use crate::model::{COUNTS, Count, Index, Section};
 use crate::random::Random;
 
+/// A damage.
+pub type Damage = fn(&mut Random, Section) -> Case;
+
 /// The damages. Those of the abbreviation table stand twice, since they have the most ways to go wrong.
-pub const DAMAGES: [fn(&mut Random, Section) -> Case; 17] = [
+pub const DAMAGES: [Damage; 17] = [
     cut_with_length_kept,
     cut_with_length_adapted,
     byte_changed,
@@ -25,6 +28,16 @@ pub const DAMAGES: [fn(&mut Random, Section) -> Case; 17] = [
     table_cut,
     string_offset_wrong,
     strings_without_zero,
+];
+
+/// Damages of what entries are read from.
+pub const ENTRY_DAMAGES: [Damage; 6] = [
+    entry_offset_wrong,
+    pool_byte_changed,
+    pool_bad_leb128,
+    pool_cut,
+    form_unknown,
+    declaration_missing,
 ];
 
 /// One of the indexes.
@@ -270,6 +283,68 @@ fn strings_without_zero(random: &mut Random, mut section: Section) -> Case {
         while section.strings.last() == Some(&0) {
             section.strings.pop();
         }
+    }
+    Case::encoded(&section)
+}
+
+/// An entry offset is another one in the pool, the pool's end, or past it.
+fn entry_offset_wrong(random: &mut Random, mut section: Section) -> Case {
+    let index = some_index(random, &mut section);
+    let count = index.entry_offsets.len();
+    if count > 0 {
+        let end = index.pool.len() as u64;
+        let inside = random.below(index.pool.len() + 1) as u64;
+        let largest = if index.wide { u64::MAX } else { u32::MAX.into() };
+        index.entry_offsets[random.below(count)] = random.pick(&[inside, inside, end, end + 1, largest]);
+    }
+    Case::encoded(&section)
+}
+
+/// A byte of the pool is another one: a code or a value.
+fn pool_byte_changed(random: &mut Random, mut section: Section) -> Case {
+    let pool = &mut some_index(random, &mut section).pool;
+    if !pool.is_empty() {
+        let place = random.below(pool.len());
+        pool[place] = other_byte(random, pool[place]);
+    }
+    Case::encoded(&section)
+}
+
+/// Bytes that are no number, or one that no table is likely to declare, stand before some byte of the pool or at its end.
+fn pool_bad_leb128(random: &mut Random, mut section: Section) -> Case {
+    let bad = random.pick(&[[vec![0xff; 9], vec![2]].concat(), vec![0x80; 11], [vec![0xff; 9], vec![0]].concat()]);
+    let pool = &mut some_index(random, &mut section).pool;
+    let place = random.below(pool.len() + 1);
+    pool.splice(place..place, bad);
+    Case::encoded(&section)
+}
+
+/// The pool ends early, and the length of its index fits.
+fn pool_cut(random: &mut Random, mut section: Section) -> Case {
+    let pool = &mut some_index(random, &mut section).pool;
+    pool.truncate(random.below(pool.len() + 1));
+    Case::encoded(&section)
+}
+
+/// An attribute of a declaration has a form that no entry can have.
+fn form_unknown(random: &mut Random, mut section: Section) -> Case {
+    let mut forms = Vec::new();
+    for declaration in &mut some_index(random, &mut section).declarations {
+        let last = declaration.pairs.len() - 1;
+        forms.extend(declaration.pairs[..last].iter_mut().map(|(_, form)| form));
+    }
+    if !forms.is_empty() {
+        let which = random.below(forms.len());
+        *forms[which] = leb128(random.pick(&[0x01, 0x0e, 0x1d, 0x1001]), 1);
+    }
+    Case::encoded(&section)
+}
+
+/// A declaration is not there: its entries have none, or that of another declaration of its code.
+fn declaration_missing(random: &mut Random, mut section: Section) -> Case {
+    let declarations = &mut some_index(random, &mut section).declarations;
+    if !declarations.is_empty() {
+        declarations.remove(random.below(declarations.len()));
     }
     Case::encoded(&section)
 }

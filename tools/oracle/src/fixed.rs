@@ -47,6 +47,60 @@ abbreviation 127 -
 abbreviation 128 -
 abbreviation 300 -
 abbreviation 18446744073709551615 -
+name_entries 0 91
+next 0 1 46
+next end
+next end
+name_entries 1 97
+next 6 1 46
+next end
+next end
+name_entries 2 103
+next 12 1 46
+next end
+next end
+name_entries 3 refused 1 84
+name_entries 4 refused 1 72
+name_entry 0 1 46
+entry_compile_unit 0 -
+entry_type_unit 0 -
+die_offset 0 16
+parent 0 -
+type_hash 0 -
+name_entry 1 refused 8 16
+entry_compile_unit 1 refused 8 16
+entry_type_unit 1 refused 8 16
+die_offset 1 refused 8 16
+parent 1 refused 8 16
+type_hash 1 refused 8 16
+name_entry 2 refused 10 2
+name_entry 3 refused 10 3
+name_entry 4 refused 10 4
+name_entry 5 refused 10 5
+name_entry 6 1 46
+entry_compile_unit 6 -
+entry_type_unit 6 -
+die_offset 6 32
+parent 6 -
+type_hash 6 -
+name_entry 7 refused 8 32
+name_entry 8 refused 10 8
+name_entry 9 refused 10 9
+name_entry 10 refused 10 10
+name_entry 11 refused 10 11
+name_entry 12 1 46
+entry_compile_unit 12 -
+entry_type_unit 12 -
+die_offset 12 48
+parent 12 -
+type_hash 12 -
+name_entry 13 refused 8 48
+name_entry 14 refused 10 14
+name_entry 15 refused 10 15
+name_entry 16 refused 10 16
+name_entry 17 refused 10 17
+name_entry 18 refused 1 109
+name_entry 19 refused 1 91
 end
 ";
 

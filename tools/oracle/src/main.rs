@@ -3,18 +3,20 @@
 //!     GIMLI_SRC=FOLDER cargo run --release -- OUTPUT_FOLDER
 //!
 //! README.md has the whole. What is where: `random`, the random numbers; `bytes`, numbers into bytes; `model`, what a section is
-//! made of; `valid`, valid sections; `damage`, damaged ones; `fixed`, sections that are not random; `case`, the file of sections;
-//! `lent`, the sections as gimli reads them and its errors as refusals; `answers`, the calls; `check`, what must hold of gimli and of
-//! the valid sections. The library of this package, src/lib.rs, is gimli.
+//! made of; `valid`, valid sections; `damage`, damaged ones; `fixed` and `entries`, sections that are not random; `case`, the file of
+//! sections; `lent`, the sections as gimli reads them and its errors as refusals; `answers`, the calls, and `pool`, those on entries;
+//! `check`, what must hold of gimli and of the valid sections. The library of this package, src/lib.rs, is gimli.
 
 mod answers;
 mod bytes;
 mod case;
 mod check;
 mod damage;
+mod entries;
 mod fixed;
 mod lent;
 mod model;
+mod pool;
 mod random;
 mod valid;
 
@@ -22,6 +24,7 @@ use std::path::Path;
 
 use answers::Answers;
 use case::Case;
+use damage::Damage;
 use random::Random;
 
 const SEED: u64 = 0x0064_6562_7567_0005;
@@ -33,16 +36,24 @@ const EACH_DAMAGE: usize = 18;
 /// Every case, in the order of the file.
 fn cases() -> Vec<Case> {
     let mut random = Random(SEED);
-    let mut cases = fixed::cases();
+    let mut cases = [fixed::cases(), entries::cases()].concat();
     for _ in 0..VALID {
         let case = Case::encoded(&valid::section(&mut random));
         check::valid(&case);
         cases.push(case);
     }
+    cases.extend(damaged(&mut random, &damage::DAMAGES));
+    cases.extend(damaged(&mut random, &damage::ENTRY_DAMAGES));
+    cases
+}
+
+/// Sections with each of the damages in turn.
+fn damaged(random: &mut Random, damages: &[Damage]) -> Vec<Case> {
+    let mut cases = Vec::new();
     for _ in 0..EACH_DAMAGE {
-        for damage in damage::DAMAGES {
-            let section = valid::section(&mut random);
-            cases.push(damage(&mut random, section));
+        for damage in damages {
+            let section = valid::section(random);
+            cases.push(damage(random, section));
         }
     }
     cases
@@ -80,5 +91,8 @@ fn report(cases: &[Case], sections: &[u8], answers: &Answers) {
             0 => println!("{call:24} {count:6}"),
             _ => println!("{call:24} {count:6} refused {refusal}"),
         }
+    }
+    for (refusal, count) in pool::refusals(&answers.tally) {
+        println!("{:24} {count:6} refused {refusal}", "all calls on entries");
     }
 }
