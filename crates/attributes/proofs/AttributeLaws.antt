@@ -18,7 +18,7 @@ use Rattle.attributes.specs.declared.attribute.NameAttribute.{NameAttrib
 use Rattle.attributes.specs.declared.attribute.FirstAttribute.{FirstAttribute}
 use Rattle.attributes.specs.declared.facts.Facts.{Facts}
 use Rattle.attributes.specs.declared.facts.ReadFacts.{ReadFacts}
-use Rattle.attributes.specs.Sanity.{ValuesDeclared, EntriesOnward}
+use Rattle.attributes.specs.Sanity.{ValuesDeclared, EntryValuesOnward}
 use Rattle.attributes.specs.Attributes.{Values, valueThen, values, first, compileUnitName, typeUnitName, dieOffsetName, parentName, typeHashName, facts, valuesIn, valuesFrom, factsRead, orElse, keptAs, kept, noFacts}
 
 -- a pair, its value, and the values after it
@@ -188,15 +188,15 @@ pub facts-declared : (order : RunTimeEndian) (s : List ℕ) (pairs pairsEnd : �
 unfolding factsRead
 facts-declared order s pairs pairsEnd a at end e = rw (values-declared order s pairs pairsEnd a at end e)
 
-pub entries-onward : EntriesOnward
+pub entry-values-onward : EntryValuesOnward
 unfolding values
-entries-onward order s [] at end v inside e =
+entry-values-onward order s [] at end v inside e =
     let past : v .next ≡ at = ap (λ v. v .next) (sym (same-answer e)) in
     (omega arith, omega arith)
-entries-onward order s (a ∷ more) at end v inside e =
+entry-values-onward order s (a ∷ more) at end v inside e =
     let (one, read, rest) = bind-answered (formValue (a .form) order s at end) _ v e in
     let (others, read-others, same) = bind-answered (values order s more (one .next) end) _ v rest in
     let (ahead, within) = forms.values-onward (a .form) order s at end one inside read in
-    let (further, still) = entries-onward order s more (one .next) end others within read-others in
+    let (further, still) = entry-values-onward order s more (one .next) end others within read-others in
     let past : v .next ≡ others .next = ap (λ v. v .next) (sym (same-answer same)) in
     (omega arith, omega arith)

@@ -16,7 +16,7 @@ ValuesDeclared =
     → valuesFrom order s pairs pairsEnd at end ≡ values order s (a .list) at end
 
 -- the values of an entry that begin inside a part do not go back and stay inside
-abbrev pub EntriesOnward : Type 0
-EntriesOnward =
+abbrev pub EntryValuesOnward : Type 0
+EntryValuesOnward =
     (order : RunTimeEndian) (s : List ℕ) (list : List Attribute) (at end : ℕ) (v : Values) → at ≤ partEnd s end → values order s list at end ≡ answered v
     → (at ≤ v .next) × (v .next ≤ partEnd s end)

@@ -27,7 +27,7 @@ use Rattle.index.proofs.LayoutLaws.{fitted-answered}
 use Rattle.attributes.specs.declared.facts.Facts.{Facts}
 use Rattle.attributes.specs.declared.facts.ReadFacts.{ReadFacts}
 use Rattle.attributes.specs.Attributes.{Values, values, facts, factsRead}
-use Rattle.attributes.proofs.AttributeLaws.{facts-declared, entries-onward}
+use Rattle.attributes.proofs.AttributeLaws.{facts-declared, entry-values-onward}
 use Rattle.entries.specs.declared.entry.NameEntry.{NameEntry}
 use Rattle.entries.specs.declared.entry.WholeEntry.{WholeEntry}
 use Rattle.entries.specs.Sanity.{EntriesForward, HandlesBelow}
@@ -107,7 +107,7 @@ entry-answered order s p at e answer =
     let offset : e .offset ≡ at - p .«entry_pool» = ap (λ e. e .offset) (sym this) in
     let past : e .next ≡ v .next = ap (λ e. e .next) (sym this) in
     let (ahead, inside) = leb128-forward unsignedLimit s at (p .end) code read in
-    let (further, within) = entries-onward order s (d .attributes) (code .next) (p .end) v inside read-values in
+    let (further, within) = entry-values-onward order s (d .attributes) (code .next) (p .end) v inside read-values in
     (offset, (omega arith, omega arith))
   where
     -- the side of a choice that is not none

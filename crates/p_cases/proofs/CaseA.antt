@@ -7,6 +7,7 @@ use Rattle.reader.specs.Numbers.{digits, spelled, readNumber, readByte, initial
 use Rattle.reader.specs.Leb128.{leb128, numberOfBytes, numberBytes, someBeyond, beyond, complete, base128}
 use Rattle.reader.specs.Strings.{beforeZero, zeroFrom, getStr, textBytes}
 use Rattle.reader.specs.Listing.{listing, answersOf}
+use Rattle.reader.specs.Steps.{no-steps, step-then}
 use Rattle.abbreviations.specs.Abbreviations.{pair, attributesIn, attributes, head, withAttributes, declaration, table, ending, parsed, find, found}
 use Rattle.index.specs.Header.{headerCut, counts, augmentation, headerBody, header}
 use Rattle.index.specs.Layout.{wordBytes, hashBytes, sizes, placesFrom, place, parts, fitted}
@@ -18,9 +19,9 @@ use Rattle.forms.specs.Forms.{asFlag, asUnsigned, asOffset, formValue}
 use Rattle.attributes.specs.Attributes.{values, first}
 use Rattle.attributes.specs.Meaning.{dieOffset, dieOffsetIn, parentOf}
 use Rattle.entries.specs.Entries.{entry, nameEntry}
-use Rattle.entries.specs.Series.{seriesStart, seriesEntry, entriesFrom, series, nameEntries}
+use Rattle.entries.specs.Series.{seriesStart, seriesEntry, entriesFrom, series, nameEntries, moved, entryStep}
 use Rattle.entries.specs.Facts.{entryDieOffset, entryParent}
-use Rattle.p_cases.specs.CaseA.{caseA, stringsA, headerA, indexA, partsA, HeaderOfA, OpensA, PartsOfA, FitsA, UnitsOfA, StringsOfA, BytesOfA, AbbreviationsOfA, CursorsOfA, SeriesOfA, FactsOfA}
+use Rattle.p_cases.specs.CaseA.{caseA, stringsA, headerA, indexA, partsA, HeaderOfA, OpensA, PartsOfA, FitsA, UnitsOfA, StringsOfA, BytesOfA, AbbreviationsOfA, CursorsOfA, SeriesOfA, StepsOfA, FactsOfA}
 
 pub header-of-a : HeaderOfA
 unfolding caseA headerA header headerCut headerBody counts augmentation initialLength readNumber skipped cut spelled digits
@@ -61,6 +62,10 @@ cursors-of-a = refl
 pub series-of-a : SeriesOfA
 unfolding caseA indexA series seriesStart seriesEntry entriesFrom answersOf nthWord entry values first formValue asFlag asUnsigned asOffset readByte find table listing declaration withAttributes head attributes attributesIn pair leb128 numberOfBytes numberBytes someBeyond beyond complete base128 fitted parts place placesFrom sizes wordBytes hashBytes longest readNumber skipped spelled digits
 series-of-a = refl
+
+pub steps-of-a : StepsOfA
+unfolding caseA indexA entryStep moved seriesEntry entry values first formValue asFlag asUnsigned asOffset readByte find table listing declaration withAttributes head attributes attributesIn pair leb128 numberOfBytes numberBytes someBeyond beyond complete base128 fitted parts place placesFrom sizes wordBytes hashBytes longest readNumber skipped spelled digits
+steps-of-a = step-then refl (step-then refl (step-then refl no-steps))
 
 pub facts-of-a : FactsOfA
 unfolding caseA indexA entryDieOffset entryParent dieOffset dieOffsetIn parentOf entry nameEntry values first formValue asFlag asUnsigned asOffset readByte find table listing declaration withAttributes head attributes attributesIn pair leb128 numberOfBytes numberBytes someBeyond beyond complete base128 fitted parts place placesFrom sizes wordBytes hashBytes longest readNumber skipped spelled digits

@@ -22,14 +22,16 @@ use Rattle.names.specs.Units.{compileUnit}
 use Rattle.names.specs.Names.{nameString, nameStringBytes}
 use Rattle.names.specs.Declarations.{getAbbreviation}
 use Rattle.reader.specs.Listing.{answersOf}
+use Rattle.reader.specs.Steps.{Linked}
 use Rattle.attributes.specs.declared.attribute.DieOffset.{DieOffset}
 use Rattle.attributes.specs.declared.attribute.EntryParent.{EntryParent}
 use Rattle.entries.specs.declared.series.EntriesRead.{EntriesRead}
 use Rattle.entries.specs.declared.series.NameEntryIter.{NameEntryIter}
 use Rattle.entries.specs.declared.entry.NameEntry.{NameEntry}
-use Rattle.entries.specs.Answers.{entriesOutcome}
+use Rattle.entries.specs.declared.series.NameEntryStep.{NameEntryStep}
+use Rattle.entries.specs.Answers.{entriesOutcome, entryStepOf}
 use Rattle.entries.specs.Entries.{handed}
-use Rattle.entries.specs.Series.{series, nameEntries}
+use Rattle.entries.specs.Series.{series, nameEntries, entryStep}
 use Rattle.entries.specs.Facts.{entryDieOffset, entryParent}
 
 -- the bytes, a line for each sentence of document 01: the length; the version and its padding; C; L; F; B; N; A; the augmentation;
@@ -163,6 +165,17 @@ entryAt offset = answered (some (record { offset = record { 0 = offset }; «abbr
 
 abbrev pub SeriesOfA : Type 0
 SeriesOfA = seriesOfA 0 ∷ seriesOfA 1 ∷ seriesOfA 2 ∷ [] ≡ entryAt 0 ∷ entryAt 6 ∷ entryAt 12 ∷ []
+
+-- answers of the step that are linked from the cursor of name 0 on: its entry, the end at its code 0, and the end again
+abbrev pub stepsOfA : List NameEntryStep
+stepsOfA =
+    NameEntryStep.Entry (record { offset = record { 0 = 0 }; «abbrev_code» = 1; tag = 0x2e }) (record { at = 96 })
+    ∷ NameEntryStep.End (record { at = 109 })
+    ∷ NameEntryStep.End (record { at = 109 })
+    ∷ []
+
+abbrev pub StepsOfA : Type 0
+StepsOfA = Linked entryStepOf (entryStep RunTimeEndian.Little caseA indexA) (record { at = 91 }) stepsOfA
 
 -- the DIE of entry 6 is at 0x20, and its parent is not known
 abbrev pub FactsOfA : Type 0
