@@ -9,17 +9,17 @@ use lib.Dec.{eqb}
 use Rattle.reader.specs.Outcome.{Outcome, answered, refused, _>>=_}
 use Rattle.reader.specs.Parts.{partEnd, leftAt}
 use Rattle.reader.specs.declared.endianity.RunTimeEndian.{RunTimeEndian}
-use Rattle.reader.proofs.OutcomeLaws.{refused-answered, same-answer, bind-answered, cond-is}
+use Rattle.reader.proofs.OutcomeLaws.{refused-answered, same-answer, bind-answered, bind-same, cond-is}
 use Rattle.abbreviations.specs.Abbreviations.{Attribute, Attributes, Pair, pair, before, attributesIn, attributes}
 use Rattle.abbreviations.proofs.AbbreviationLaws.{pair-forward, pair-none}
 use Rattle.forms.specs.Forms.{Valued, formValue}
 use Rattle.forms.proofs.FormLaws as forms
-use Rattle.attributes.specs.declared.attribute.NameAttribute.{NameAttribute}
+use Rattle.forms.specs.declared.NameAttributeValue.{NameAttributeValue}
 use Rattle.attributes.specs.declared.attribute.FirstAttribute.{FirstAttribute}
 use Rattle.attributes.specs.declared.facts.Facts.{Facts}
 use Rattle.attributes.specs.declared.facts.ReadFacts.{ReadFacts}
 use Rattle.attributes.specs.Sanity.{ValuesDeclared, EntryValuesOnward}
-use Rattle.attributes.specs.Attributes.{Values, valueThen, values, first, compileUnitName, typeUnitName, dieOffsetName, parentName, typeHashName, facts, valuesIn, valuesFrom, factsRead, orElse, keptAs, kept, noFacts}
+use Rattle.attributes.specs.Attributes.{NameAttribute, Values, valueThen, values, kept, noAttribute, first, compileUnitName, typeUnitName, dieOffsetName, parentName, typeHashName, facts, valuesIn, valuesFrom, factsRead, orElseBy, orElse, withOne, withFact, noFacts}
 
 -- a pair, its value, and the values after it
 abbrev turn : RunTimeEndian → List ℕ → ℕ → ℕ → Outcome Pair → (Pair → ℕ → Outcome Values) → Outcome Values
@@ -63,45 +63,57 @@ turn-step order s pairs pairsEnd at end =
     let (ahead, inside) = pair-forward s pairs pairsEnd p e in
     values-turns (leftAt s pairs pairsEnd) (leftAt s (p .next) pairsEnd) order s (p .next) pairsEnd next end (omega arith) (omega arith))
 
--- facts that were kept, and those of the attributes after them
+-- what is kept of a name in the end: each attribute in turn, in the order of the code
+unfoldable pub keptOne : ℕ → FirstAttribute → List NameAttribute → FirstAttribute
+keptOne wanted f [] = f
+keptOne wanted f (a ∷ more) = keptOne wanted (withOne wanted f (a .name) (kept (a .form) (a .value))) more
+
 unfoldable pub keptAll : Facts → List NameAttribute → Facts
 keptAll f list = record {
-  «compile_unit» = orElse (f .«compile_unit») (first compileUnitName list);
-  «type_unit» = orElse (f .«type_unit») (first typeUnitName list);
-  «die_offset» = orElse (f .«die_offset») (first dieOffsetName list);
-  parent = orElse (f .parent) (first parentName list);
-  «type_hash» = orElse (f .«type_hash») (first typeHashName list);
+  «compile_unit» = keptOne compileUnitName (f .«compile_unit») list;
+  «type_unit» = keptOne typeUnitName (f .«type_unit») list;
+  «die_offset» = keptOne dieOffsetName (f .«die_offset») list;
+  parent = keptOne parentName (f .parent) list;
+  «type_hash» = keptOne typeHashName (f .«type_hash») list;
 }
 
-or-none : (f : FirstAttribute) → orElse f FirstAttribute.None ≡ f
-unfolding orElse
-or-none (FirstAttribute.Some a) = refl
-or-none FirstAttribute.None = refl
+-- an attribute that was kept stays
+or-kept : (form : ℕ) (value : NameAttributeValue) (b : FirstAttribute) → orElse (kept form value) b ≡ kept form value
+unfolding orElse orElseBy kept
+or-kept form (NameAttributeValue.Unsigned n) b = refl
+or-kept form (NameAttributeValue.Offset n) b = refl
+or-kept form (NameAttributeValue.Flag t) b = refl
 
--- an attribute that was kept, or counts now, comes before those after it
-or-first : (name : ℕ) (f : FirstAttribute) (a : NameAttribute) (list : List NameAttribute) → orElse (keptAs name f a) (first name list) ≡ orElse f (first name (a ∷ list))
-unfolding orElse first
-or-first name f a list = by-cases (eqb (a .name) name) f
+kept-stays : (wanted form : ℕ) (value : NameAttributeValue) (list : List NameAttribute) → keptOne wanted (kept form value) list ≡ kept form value
+unfolding keptOne
+kept-stays wanted form value [] = refl
+kept-stays wanted form value (a ∷ more) = by-name (eqb (a .name) wanted) (kept-stays wanted form value more)
   where
-    by-cases : (t : Bool) (f : FirstAttribute)
-        → orElse (cond t (orElse f (FirstAttribute.Some a)) f) (first name list) ≡ orElse f (cond t (FirstAttribute.Some a) (first name list))
-    by-cases true (FirstAttribute.Some b) = refl
-    by-cases true FirstAttribute.None = refl
-    by-cases false f = refl
+    by-name : (t : Bool) → keptOne wanted (kept form value) more ≡ kept form value
+        → keptOne wanted (cond t (orElse (kept form value) (kept (a .form) (a .value))) (kept form value)) more ≡ kept form value
+    by-name true rest = rw (or-kept form value (kept (a .form) (a .value))) rest
+    by-name false rest = rest
 
-kept-none : (f : Facts) → keptAll f [] ≡ f
-unfolding keptAll first
-kept-none f = rw (or-none (f .«compile_unit»), or-none (f .«type_unit»), or-none (f .«die_offset»), or-none (f .parent), or-none (f .«type_hash»))
+-- so from none on it is the first of its name
+kept-first : (wanted : ℕ) (list : List NameAttribute) → keptOne wanted noAttribute list ≡ first wanted list
+unfolding keptOne first noAttribute orElse orElseBy
+kept-first wanted [] = refl
+kept-first wanted (a ∷ more) = by-name (eqb (a .name) wanted) (kept-first wanted more)
+  where
+    by-name : (t : Bool) → keptOne wanted noAttribute more ≡ first wanted more
+        → keptOne wanted (cond t (kept (a .form) (a .value)) noAttribute) more ≡ cond t (kept (a .form) (a .value)) (first wanted more)
+    by-name true rest = kept-stays wanted (a .form) (a .value) more
+    by-name false rest = rest
 
-kept-more : (f : Facts) (a : NameAttribute) (list : List NameAttribute) → keptAll f (a ∷ list) ≡ keptAll (kept f a) list
-unfolding keptAll kept
-kept-more f a list =
+facts-first : (list : List NameAttribute) → facts list ≡ keptAll noFacts list
+unfolding facts keptAll noFacts
+facts-first list =
     rw (
-      ← or-first compileUnitName (f .«compile_unit») a list,
-      ← or-first typeUnitName (f .«type_unit») a list,
-      ← or-first dieOffsetName (f .«die_offset») a list,
-      ← or-first parentName (f .parent) a list,
-      ← or-first typeHashName (f .«type_hash») a list,
+      kept-first compileUnitName list,
+      kept-first typeUnitName list,
+      kept-first dieOffsetName list,
+      kept-first parentName list,
+      kept-first typeHashName list,
     )
 
 -- facts so far, and what is left to read
@@ -111,41 +123,41 @@ factsFrom f order s pairs pairsEnd at end = do
   answered (record { facts = keptAll f (v .list); next = v .next })
 
 pub facts-start : (order : RunTimeEndian) (s : List ℕ) (pairs pairsEnd at end : ℕ) → factsRead order s pairs pairsEnd at end ≡ factsFrom noFacts order s pairs pairsEnd at end
-unfolding factsRead factsFrom facts keptAll noFacts first orElse
-facts-start order s pairs pairsEnd at end = refl
+unfolding factsRead factsFrom
+facts-start order s pairs pairsEnd at end = bind-same (valuesFrom order s pairs pairsEnd at end) _ _ λ v read. rw (facts-first (v .list))
 
 -- one attribute, in the order of the code
 pub facts-step : (f : Facts) (order : RunTimeEndian) (s : List ℕ) (pairs pairsEnd at end : ℕ) → factsFrom f order s pairs pairsEnd at end ≡ (do
   p ← pair s pairs pairsEnd
   cond (eqb (p .name) 0) (answered (record { facts = f; next = at })) (do
     v ← formValue (p .form) order s at end
-    factsFrom (kept f (record { name = p .name; form = p .form; value = v .value })) order s (p .next) pairsEnd (v .next) end))
-unfolding factsFrom
+    factsFrom (withFact f (p .name) (kept (p .form) (v .value))) order s (p .next) pairsEnd (v .next) end))
+unfolding factsFrom keptAll keptOne withFact
 facts-step f order s pairs pairsEnd at end = rw (turn-step order s pairs pairsEnd at end) (by-pair (pair s pairs pairsEnd))
   where
     handed : Facts → Values → Outcome ReadFacts
     handed f v = answered (record { facts = keptAll f (v .list); next = v .next })
 
     by-rest : (a : NameAttribute) (o : Outcome Values)
-        → ((o >>= λ rest. answered (valueThen (a .name) (a .form) (a .value) rest)) >>= handed f) ≡ (o >>= handed (kept f a))
-    by-rest a (answered rest) = rw (kept-more f a (rest .list))
+        → ((o >>= λ rest. answered (valueThen (a .name) (a .form) (a .value) rest)) >>= handed f) ≡ (o >>= handed (withFact f (a .name) (kept (a .form) (a .value))))
+    by-rest a (answered rest) = refl
     by-rest a (refused n v) = refl
 
     by-value : (p : Pair) (o : Outcome Valued)
         → ((o >>= λ v. valuesFrom order s (p .next) pairsEnd (v .next) end >>= λ rest. answered (valueThen (p .name) (p .form) (v .value) rest)) >>= handed f)
-        ≡ (o >>= λ v. valuesFrom order s (p .next) pairsEnd (v .next) end >>= handed (kept f (record { name = p .name; form = p .form; value = v .value })))
+        ≡ (o >>= λ v. valuesFrom order s (p .next) pairsEnd (v .next) end >>= handed (withFact f (p .name) (kept (p .form) (v .value))))
     by-value p (answered v) = by-rest (record { name = p .name; form = p .form; value = v .value }) (valuesFrom order s (p .next) pairsEnd (v .next) end)
     by-value p (refused n v) = refl
 
     by-name : (t : Bool) (p : Pair)
         → (cond t (answered (record { list = []; next = at })) (formValue (p .form) order s at end >>= λ v. valuesFrom order s (p .next) pairsEnd (v .next) end >>= λ rest. answered (valueThen (p .name) (p .form) (v .value) rest)) >>= handed f)
-        ≡ cond t (answered (record { facts = f; next = at })) (formValue (p .form) order s at end >>= λ v. valuesFrom order s (p .next) pairsEnd (v .next) end >>= handed (kept f (record { name = p .name; form = p .form; value = v .value })))
-    by-name true p = rw (kept-none f)
+        ≡ cond t (answered (record { facts = f; next = at })) (formValue (p .form) order s at end >>= λ v. valuesFrom order s (p .next) pairsEnd (v .next) end >>= handed (withFact f (p .name) (kept (p .form) (v .value))))
+    by-name true p = refl
     by-name false p = by-value p (formValue (p .form) order s at end)
 
     by-pair : (o : Outcome Pair)
         → (turn order s at end o (λ p next. valuesFrom order s (p .next) pairsEnd next end) >>= handed f)
-        ≡ (o >>= λ p. cond (eqb (p .name) 0) (answered (record { facts = f; next = at })) (formValue (p .form) order s at end >>= λ v. valuesFrom order s (p .next) pairsEnd (v .next) end >>= handed (kept f (record { name = p .name; form = p .form; value = v .value }))))
+        ≡ (o >>= λ p. cond (eqb (p .name) 0) (answered (record { facts = f; next = at })) (formValue (p .form) order s at end >>= λ v. valuesFrom order s (p .next) pairsEnd (v .next) end >>= handed (withFact f (p .name) (kept (p .form) (v .value)))))
     by-pair (answered p) = by-name (eqb (p .name) 0) p
     by-pair (refused n v) = refl
 

@@ -10,10 +10,16 @@ use Rattle.reader.specs.declared.endianity.RunTimeEndian.{RunTimeEndian}
 use Rattle.abbreviations.specs.Abbreviations.{Attribute, Pair, pair}
 use Rattle.forms.specs.declared.NameAttributeValue.{NameAttributeValue}
 use Rattle.forms.specs.Forms.{formValue}
-use Rattle.attributes.specs.declared.attribute.NameAttribute.{NameAttribute}
+use Rattle.attributes.specs.declared.attribute.Kind.{Kind}
 use Rattle.attributes.specs.declared.attribute.FirstAttribute.{FirstAttribute}
 use Rattle.attributes.specs.declared.facts.Facts.{Facts}
 use Rattle.attributes.specs.declared.facts.ReadFacts.{ReadFacts}
+
+-- an attribute: its name, its form and its value
+pub record NameAttribute : Type 0 where
+  pub name : ℕ
+  pub form : ℕ
+  pub value : NameAttributeValue
 
 -- attributes with their values, in order, and the place past the last value
 pub record Values : Type 0 where
@@ -32,10 +38,20 @@ values order s (a ∷ more) at end = do
   rest ← values order s more (v .next) end
   answered (valueThen (a .name) (a .form) (v .value) rest)
 
+-- what is kept of an attribute: its form, the kind of its value, and its number, which is 1 for a flag that is true and 0 for one that
+-- is false
+unfoldable pub kept : ℕ → NameAttributeValue → FirstAttribute
+kept form (NameAttributeValue.Unsigned n) = record { form = form; kind = Kind.Unsigned; number = n }
+kept form (NameAttributeValue.Offset n) = record { form = form; kind = Kind.Offset; number = n }
+kept form (NameAttributeValue.Flag b) = record { form = form; kind = Kind.Flag; number = cond b 1 0 }
+
+unfoldable pub noAttribute : FirstAttribute
+noAttribute = record { form = 0; kind = Kind.None; number = 0 }
+
 -- the first attribute of a name
 unfoldable pub first : ℕ → List NameAttribute → FirstAttribute
-first name [] = FirstAttribute.None
-first name (a ∷ more) = cond (eqb (a .name) name) (FirstAttribute.Some a) (first name more)
+first name [] = noAttribute
+first name (a ∷ more) = cond (eqb (a .name) name) (kept (a .form) (a .value)) (first name more)
 
 -- the five names
 abbrev pub compileUnitName : ℕ
@@ -86,21 +102,26 @@ factsRead order s pairs pairsEnd at end = do
   answered (record { facts = facts (v .list); next = v .next })
 
 -- facts that were kept, with one more attribute: it counts where it is the first of its name
+unfoldable pub orElseBy : Kind → FirstAttribute → FirstAttribute → FirstAttribute
+orElseBy Kind.None f b = b
+orElseBy Kind.Unsigned f b = f
+orElseBy Kind.Offset f b = f
+orElseBy Kind.Flag f b = f
+
 unfoldable pub orElse : FirstAttribute → FirstAttribute → FirstAttribute
-orElse (FirstAttribute.Some a) b = FirstAttribute.Some a
-orElse FirstAttribute.None b = b
+orElse f b = orElseBy (f .kind) f b
 
-abbrev pub keptAs : ℕ → FirstAttribute → NameAttribute → FirstAttribute
-keptAs name f a = cond (eqb (a .name) name) (orElse f (FirstAttribute.Some a)) f
+abbrev pub withOne : ℕ → FirstAttribute → ℕ → FirstAttribute → FirstAttribute
+withOne wanted f name a = cond (eqb name wanted) (orElse f a) f
 
-unfoldable pub kept : Facts → NameAttribute → Facts
-kept f a = record {
-  «compile_unit» = keptAs compileUnitName (f .«compile_unit») a;
-  «type_unit» = keptAs typeUnitName (f .«type_unit») a;
-  «die_offset» = keptAs dieOffsetName (f .«die_offset») a;
-  parent = keptAs parentName (f .parent) a;
-  «type_hash» = keptAs typeHashName (f .«type_hash») a;
+unfoldable pub withFact : Facts → ℕ → FirstAttribute → Facts
+withFact f name a = record {
+  «compile_unit» = withOne compileUnitName (f .«compile_unit») name a;
+  «type_unit» = withOne typeUnitName (f .«type_unit») name a;
+  «die_offset» = withOne dieOffsetName (f .«die_offset») name a;
+  parent = withOne parentName (f .parent) name a;
+  «type_hash» = withOne typeHashName (f .«type_hash») name a;
 }
 
 unfoldable pub noFacts : Facts
-noFacts = facts []
+noFacts = record { «compile_unit» = noAttribute; «type_unit» = noAttribute; «die_offset» = noAttribute; parent = noAttribute; «type_hash» = noAttribute }

@@ -1,14 +1,14 @@
 -- What the first attribute of a name says: document 01, "Entries and attributes". A value of a wrong form is refused with 12 and the
 -- form; where no attribute has the name, there is nothing to say.
 use Prim.Native.Nat.{ℕ}
-use mathlib.Core.Bool.{true, false, cond}
+use mathlib.Core.Bool.{cond}
 use mathlib.Core.List.{List}
-use lib.Dec.{ltb}
+use lib.Dec.{ltb, eqb}
 use Rattle.reader.specs.Outcome.{Outcome, answered, refused, _>>=_}
 use Rattle.reader.specs.declared.endianity.RunTimeEndian.{RunTimeEndian}
 use Rattle.index.specs.declared.layout.NameIndex.{NameIndex}
 use Rattle.names.specs.Units.{compileUnit, typeUnit}
-use Rattle.forms.specs.declared.NameAttributeValue.{NameAttributeValue}
+use Rattle.attributes.specs.declared.attribute.Kind.{Kind}
 use Rattle.attributes.specs.declared.attribute.FirstAttribute.{FirstAttribute}
 use Rattle.attributes.specs.declared.attribute.UnitNumber.{UnitNumber}
 use Rattle.attributes.specs.declared.attribute.DieOffset.{DieOffset}
@@ -18,14 +18,14 @@ use Rattle.attributes.specs.declared.units.EntryUnit.{EntryUnit}
 use Rattle.attributes.specs.declared.units.EntryTypeUnit.{EntryTypeUnit}
 
 -- the number of a unit: unsigned, and of 32 bits, else 11
-unfoldable pub unitNumberIn : ℕ → NameAttributeValue → Outcome UnitNumber
-unitNumberIn form (NameAttributeValue.Unsigned n) = cond (ltb 4294967295 n) (refused 11 n) (answered (UnitNumber.Some n))
-unitNumberIn form (NameAttributeValue.Offset n) = refused 12 form
-unitNumberIn form (NameAttributeValue.Flag b) = refused 12 form
+unfoldable pub unitNumberIn : Kind → ℕ → ℕ → Outcome UnitNumber
+unitNumberIn Kind.None form n = answered UnitNumber.None
+unitNumberIn Kind.Unsigned form n = cond (ltb 4294967295 n) (refused 11 n) (answered (UnitNumber.Some n))
+unitNumberIn Kind.Offset form n = refused 12 form
+unitNumberIn Kind.Flag form n = refused 12 form
 
 unfoldable pub unitNumber : FirstAttribute → Outcome UnitNumber
-unitNumber (FirstAttribute.Some a) = unitNumberIn (a .form) (a .value)
-unitNumber FirstAttribute.None = answered UnitNumber.None
+unitNumber f = unitNumberIn (f .kind) (f .form) (f .number)
 
 -- the unit of that number in the index
 unfoldable pub numberedUnit : RunTimeEndian → List ℕ → NameIndex → UnitNumber → Outcome EntryUnit
@@ -52,31 +52,31 @@ typeUnitOf order s i f = do
   numberedTypeUnit order s i number
 
 -- the offset of the DIE: an offset
-unfoldable pub dieOffsetIn : ℕ → NameAttributeValue → Outcome DieOffset
-dieOffsetIn form (NameAttributeValue.Unsigned n) = refused 12 form
-dieOffsetIn form (NameAttributeValue.Offset n) = answered (DieOffset.Some (record { 0 = n }))
-dieOffsetIn form (NameAttributeValue.Flag b) = refused 12 form
+unfoldable pub dieOffsetIn : Kind → ℕ → ℕ → Outcome DieOffset
+dieOffsetIn Kind.None form n = answered DieOffset.None
+dieOffsetIn Kind.Unsigned form n = refused 12 form
+dieOffsetIn Kind.Offset form n = answered (DieOffset.Some (record { 0 = n }))
+dieOffsetIn Kind.Flag form n = refused 12 form
 
 unfoldable pub dieOffset : FirstAttribute → Outcome DieOffset
-dieOffset (FirstAttribute.Some a) = dieOffsetIn (a .form) (a .value)
-dieOffset FirstAttribute.None = answered DieOffset.None
+dieOffset f = dieOffsetIn (f .kind) (f .form) (f .number)
 
 -- the parent: an offset, or flag true for no parent
-unfoldable pub parentIn : ℕ → NameAttributeValue → Outcome EntryParent
-parentIn form (NameAttributeValue.Unsigned n) = refused 12 form
-parentIn form (NameAttributeValue.Offset n) = answered (EntryParent.Entry (record { 0 = n }))
-parentIn form (NameAttributeValue.Flag b) = cond b (answered EntryParent.NoParent) (refused 12 form)
+unfoldable pub parentIn : Kind → ℕ → ℕ → Outcome EntryParent
+parentIn Kind.None form n = answered EntryParent.NotKnown
+parentIn Kind.Unsigned form n = refused 12 form
+parentIn Kind.Offset form n = answered (EntryParent.Entry (record { 0 = n }))
+parentIn Kind.Flag form n = cond (eqb n 0) (refused 12 form) (answered EntryParent.NoParent)
 
 unfoldable pub parentOf : FirstAttribute → Outcome EntryParent
-parentOf (FirstAttribute.Some a) = parentIn (a .form) (a .value)
-parentOf FirstAttribute.None = answered EntryParent.NotKnown
+parentOf f = parentIn (f .kind) (f .form) (f .number)
 
 -- the hash of the type: unsigned
-unfoldable pub typeHashIn : ℕ → NameAttributeValue → Outcome TypeHash
-typeHashIn form (NameAttributeValue.Unsigned n) = answered (TypeHash.Some n)
-typeHashIn form (NameAttributeValue.Offset n) = refused 12 form
-typeHashIn form (NameAttributeValue.Flag b) = refused 12 form
+unfoldable pub typeHashIn : Kind → ℕ → ℕ → Outcome TypeHash
+typeHashIn Kind.None form n = answered TypeHash.None
+typeHashIn Kind.Unsigned form n = answered (TypeHash.Some n)
+typeHashIn Kind.Offset form n = refused 12 form
+typeHashIn Kind.Flag form n = refused 12 form
 
 unfoldable pub typeHash : FirstAttribute → Outcome TypeHash
-typeHash (FirstAttribute.Some a) = typeHashIn (a .form) (a .value)
-typeHash FirstAttribute.None = answered TypeHash.None
+typeHash f = typeHashIn (f .kind) (f .form) (f .number)

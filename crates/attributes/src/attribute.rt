@@ -1,24 +1,28 @@
-// An attribute, and what the first one of a name says (gimli's methods of `NameAttribute`): a wrong form is refused with 12 and the
-// form, and where no attribute has the name, the answer is none.
+// What is kept of the first attribute of a name, and what it says (gimli's methods of `NameAttribute`): a wrong form is refused with 12
+// and the form, and where no attribute has the name, the answer is none.
 ghost use mathlib.Core.Path.{_≡_};
 ghost use Rattle.attributes.specs.Answers.{unitNumberOutcome, dieOffsetOutcome, parentOutcome, typeHashOutcome};
+ghost use Rattle.attributes.specs.Attributes.{kept};
 ghost use Rattle.attributes.specs.Meaning.{unitNumber, dieOffset, parentOf, typeHash};
 use forms::NameAttributeValue;
 use reader::Error;
 use reader::NameEntryOffset;
 use reader::UnitOffset;
 
-// An attribute: its name, its form and its value.
-pub struct NameAttribute {
-    pub name: u16,
-    pub form: u16,
-    pub value: NameAttributeValue,
+// The kind of an attribute's value, as of `NameAttributeValue`, or none where no attribute has the name.
+pub enum Kind {
+    None,
+    Unsigned,
+    Offset,
+    Flag,
 }
 
-// The first attribute of a name, or none.
-pub enum FirstAttribute {
-    Some(NameAttribute),
-    None,
+// The first attribute of a name: its form, the kind of its value, and its number, which is 1 for a flag that is true and 0 for one
+// that is false. Plain numbers: a value with its number inside an enum is copied at each turn of the loop that keeps it.
+pub struct FirstAttribute {
+    pub form: u16,
+    pub kind: Kind,
+    pub number: u64,
 }
 
 // The number of a unit, or none.
@@ -72,25 +76,45 @@ pub enum TypeHashRead {
 // The most that the number of a unit may be.
 const LAST_UNIT: u64 = 4294967295;
 
+// What is kept of an attribute with that form and value.
+pub fn keep_attribute(form: u16, value: NameAttributeValue) -> FirstAttribute
+    ensures { λ r. ⌜ r ≡ kept form value ⌝ }
+{
+    match value {
+        NameAttributeValue::Unsigned(n) => FirstAttribute {
+            form: form,
+            kind: Kind::Unsigned,
+            number: n,
+        },
+        NameAttributeValue::Offset(n) => FirstAttribute {
+            form: form,
+            kind: Kind::Offset,
+            number: n as u64,
+        },
+        NameAttributeValue::Flag(b) => FirstAttribute {
+            form: form,
+            kind: Kind::Flag,
+            number: if b { 1 } else { 0 },
+        },
+    }
+}
+
 // The number of a unit: unsigned, and at most 4,294,967,295, else 11.
 pub fn unit_number(first: FirstAttribute) -> UnitNumberRead
     ensures { λ r. ⌜ unitNumberOutcome r ≡ unitNumber first ⌝ }
 {
-    let a = match first {
-        FirstAttribute::Some(a) => a,
-        FirstAttribute::None => return UnitNumberRead::Value(UnitNumber::None),
-    };
-    let wrong = Error::UnsupportedAttributeForm(a.form);
-    let value = a.value;
-    match value {
-        NameAttributeValue::Unsigned(n) => {
-            if LAST_UNIT < n {
-                return UnitNumberRead::Refused(Error::InvalidNameAttributeIndex(n));
+    let wrong = Error::UnsupportedAttributeForm(first.form);
+    let kind = first.kind;
+    match kind {
+        Kind::None => UnitNumberRead::Value(UnitNumber::None),
+        Kind::Unsigned => {
+            if LAST_UNIT < first.number {
+                return UnitNumberRead::Refused(Error::InvalidNameAttributeIndex(first.number));
             }
-            UnitNumberRead::Value(UnitNumber::Some(n as u32))
+            UnitNumberRead::Value(UnitNumber::Some(first.number as u32))
         }
-        NameAttributeValue::Offset(_) => UnitNumberRead::Refused(wrong),
-        NameAttributeValue::Flag(_) => UnitNumberRead::Refused(wrong),
+        Kind::Offset => UnitNumberRead::Refused(wrong),
+        Kind::Flag => UnitNumberRead::Refused(wrong),
     }
 }
 
@@ -98,16 +122,13 @@ pub fn unit_number(first: FirstAttribute) -> UnitNumberRead
 pub fn die_offset(first: FirstAttribute) -> DieOffsetRead
     ensures { λ r. ⌜ dieOffsetOutcome r ≡ dieOffset first ⌝ }
 {
-    let a = match first {
-        FirstAttribute::Some(a) => a,
-        FirstAttribute::None => return DieOffsetRead::Value(DieOffset::None),
-    };
-    let wrong = Error::UnsupportedAttributeForm(a.form);
-    let value = a.value;
-    match value {
-        NameAttributeValue::Offset(n) => DieOffsetRead::Value(DieOffset::Some(UnitOffset(n))),
-        NameAttributeValue::Unsigned(_) => DieOffsetRead::Refused(wrong),
-        NameAttributeValue::Flag(_) => DieOffsetRead::Refused(wrong),
+    let wrong = Error::UnsupportedAttributeForm(first.form);
+    let kind = first.kind;
+    match kind {
+        Kind::None => DieOffsetRead::Value(DieOffset::None),
+        Kind::Unsigned => DieOffsetRead::Refused(wrong),
+        Kind::Offset => DieOffsetRead::Value(DieOffset::Some(UnitOffset(first.number as usize))),
+        Kind::Flag => DieOffsetRead::Refused(wrong),
     }
 }
 
@@ -115,21 +136,20 @@ pub fn die_offset(first: FirstAttribute) -> DieOffsetRead
 pub fn parent(first: FirstAttribute) -> ParentRead
     ensures { λ r. ⌜ parentOutcome r ≡ parentOf first ⌝ }
 {
-    let a = match first {
-        FirstAttribute::Some(a) => a,
-        FirstAttribute::None => return ParentRead::Value(EntryParent::NotKnown),
-    };
-    let wrong = Error::UnsupportedAttributeForm(a.form);
-    let value = a.value;
-    match value {
-        NameAttributeValue::Offset(n) => ParentRead::Value(EntryParent::Entry(NameEntryOffset(n))),
-        NameAttributeValue::Flag(alone) => {
-            if alone {
-                return ParentRead::Value(EntryParent::NoParent);
-            }
-            ParentRead::Refused(wrong)
+    let wrong = Error::UnsupportedAttributeForm(first.form);
+    let kind = first.kind;
+    match kind {
+        Kind::None => ParentRead::Value(EntryParent::NotKnown),
+        Kind::Unsigned => ParentRead::Refused(wrong),
+        Kind::Offset => {
+            ParentRead::Value(EntryParent::Entry(NameEntryOffset(first.number as usize)))
         }
-        NameAttributeValue::Unsigned(_) => ParentRead::Refused(wrong),
+        Kind::Flag => {
+            if first.number == 0 {
+                return ParentRead::Refused(wrong);
+            }
+            ParentRead::Value(EntryParent::NoParent)
+        }
     }
 }
 
@@ -137,15 +157,12 @@ pub fn parent(first: FirstAttribute) -> ParentRead
 pub fn type_hash(first: FirstAttribute) -> TypeHashRead
     ensures { λ r. ⌜ typeHashOutcome r ≡ typeHash first ⌝ }
 {
-    let a = match first {
-        FirstAttribute::Some(a) => a,
-        FirstAttribute::None => return TypeHashRead::Value(TypeHash::None),
-    };
-    let wrong = Error::UnsupportedAttributeForm(a.form);
-    let value = a.value;
-    match value {
-        NameAttributeValue::Unsigned(n) => TypeHashRead::Value(TypeHash::Some(n)),
-        NameAttributeValue::Offset(_) => TypeHashRead::Refused(wrong),
-        NameAttributeValue::Flag(_) => TypeHashRead::Refused(wrong),
+    let wrong = Error::UnsupportedAttributeForm(first.form);
+    let kind = first.kind;
+    match kind {
+        Kind::None => TypeHashRead::Value(TypeHash::None),
+        Kind::Unsigned => TypeHashRead::Value(TypeHash::Some(first.number)),
+        Kind::Offset => TypeHashRead::Refused(wrong),
+        Kind::Flag => TypeHashRead::Refused(wrong),
     }
 }

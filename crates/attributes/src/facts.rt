@@ -2,10 +2,11 @@
 // value in turn, and keeps the first attribute of each of the five names by value, not resolved (document 01, "Entries and
 // attributes").
 use crate::attribute::FirstAttribute;
-use crate::attribute::NameAttribute;
+use crate::attribute::Kind;
+use crate::attribute::keep_attribute;
 ghost use mathlib.Core.Path.{_≡_};
 ghost use Rattle.attributes.specs.Answers.{factsOutcome};
-ghost use Rattle.attributes.specs.Attributes.{orElse, kept, noFacts, factsRead};
+ghost use Rattle.attributes.specs.Attributes.{orElse, withFact, noFacts, factsRead};
 use abbreviations::AttributeRead;
 use abbreviations::read_attribute;
 use forms::ValueRead;
@@ -34,20 +35,22 @@ pub enum FactsRead {
 }
 
 // The attribute that was kept, and where none was, this one.
-fn or_else(kept: FirstAttribute, a: NameAttribute) -> FirstAttribute
-    ensures { λ r. ⌜ r ≡ orElse kept (FirstAttribute.Some a) ⌝ }
+fn or_else(kept: FirstAttribute, a: FirstAttribute) -> FirstAttribute
+    ensures { λ r. ⌜ r ≡ orElse kept a ⌝ }
 {
-    match kept {
-        FirstAttribute::Some(_) => kept,
-        FirstAttribute::None => FirstAttribute::Some(a),
+    let kind = kept.kind;
+    match kind {
+        Kind::None => a,
+        Kind::Unsigned => kept,
+        Kind::Offset => kept,
+        Kind::Flag => kept,
     }
 }
 
 // The facts with one more attribute: it counts where it is the first of its name.
-fn keep(facts: Facts, a: NameAttribute) -> Facts
-    ensures { λ r. ⌜ r ≡ kept facts a ⌝ }
+fn keep(facts: Facts, name: u16, a: FirstAttribute) -> Facts
+    ensures { λ r. ⌜ r ≡ withFact facts name a ⌝ }
 {
-    let name = a.name;
     let compile_unit = facts.compile_unit;
     let type_unit = facts.type_unit;
     let die_offset = facts.die_offset;
@@ -97,12 +100,17 @@ fn keep(facts: Facts, a: NameAttribute) -> Facts
 fn no_facts() -> Facts
     ensures { λ r. ⌜ r ≡ noFacts ⌝ }
 {
+    let none = FirstAttribute {
+        form: 0,
+        kind: Kind::None,
+        number: 0,
+    };
     Facts {
-        compile_unit: FirstAttribute::None,
-        type_unit: FirstAttribute::None,
-        die_offset: FirstAttribute::None,
-        parent: FirstAttribute::None,
-        type_hash: FirstAttribute::None,
+        compile_unit: none,
+        type_unit: none,
+        die_offset: none,
+        parent: none,
+        type_hash: none,
     }
 }
 
@@ -137,14 +145,7 @@ pub fn read_facts(
             ValueRead::Refused(e) => return FactsRead::Refused(e),
         };
         let value = v.value;
-        facts = keep(
-            facts,
-            NameAttribute {
-                name: a.name,
-                form: a.form,
-                value: value,
-            },
-        );
+        facts = keep(facts, a.name, keep_attribute(a.form, value));
         pair = a.next;
         place = v.next;
     }

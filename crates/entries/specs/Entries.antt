@@ -14,8 +14,7 @@ use Rattle.abbreviations.specs.Abbreviations.{table, find}
 use Rattle.index.specs.declared.layout.NameIndex.{NameIndex}
 use Rattle.index.specs.declared.layout.Parts.{Parts}
 use Rattle.index.specs.Layout.{fitted}
-use Rattle.attributes.specs.declared.attribute.NameAttribute.{NameAttribute}
-use Rattle.attributes.specs.Attributes.{values, facts}
+use Rattle.attributes.specs.Attributes.{NameAttribute, values, facts}
 use Rattle.entries.specs.declared.entry.NameEntry.{NameEntry}
 use Rattle.entries.specs.declared.entry.WholeEntry.{WholeEntry}
 

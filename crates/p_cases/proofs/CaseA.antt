@@ -16,8 +16,8 @@ use Rattle.names.specs.Units.{nthWord, unitIn, compileUnit}
 use Rattle.names.specs.Names.{nameStringOffset, nameString, nameStringBytes}
 use Rattle.names.specs.Declarations.{getAbbreviation}
 use Rattle.forms.specs.Forms.{asFlag, asUnsigned, asOffset, formValue}
-use Rattle.attributes.specs.Attributes.{values, first}
-use Rattle.attributes.specs.Meaning.{dieOffset, dieOffsetIn, parentOf}
+use Rattle.attributes.specs.Attributes.{values, kept, noAttribute, first}
+use Rattle.attributes.specs.Meaning.{dieOffset, dieOffsetIn, parentOf, parentIn}
 use Rattle.entries.specs.Entries.{entry, nameEntry}
 use Rattle.entries.specs.Series.{seriesStart, seriesEntry, entriesFrom, series, nameEntries, moved, entryStep}
 use Rattle.entries.specs.Facts.{entryDieOffset, entryParent}
@@ -60,13 +60,13 @@ unfolding caseA indexA nameEntries seriesStart nthWord fitted parts place places
 cursors-of-a = refl
 
 pub series-of-a : SeriesOfA
-unfolding caseA indexA series seriesStart seriesEntry entriesFrom answersOf nthWord entry values first formValue asFlag asUnsigned asOffset readByte find table listing declaration withAttributes head attributes attributesIn pair leb128 numberOfBytes numberBytes someBeyond beyond complete base128 fitted parts place placesFrom sizes wordBytes hashBytes longest readNumber skipped spelled digits
+unfolding caseA indexA series seriesStart seriesEntry entriesFrom answersOf nthWord entry values kept noAttribute first formValue asFlag asUnsigned asOffset readByte find table listing declaration withAttributes head attributes attributesIn pair leb128 numberOfBytes numberBytes someBeyond beyond complete base128 fitted parts place placesFrom sizes wordBytes hashBytes longest readNumber skipped spelled digits
 series-of-a = refl
 
 pub steps-of-a : StepsOfA
-unfolding caseA indexA entryStep moved seriesEntry entry values first formValue asFlag asUnsigned asOffset readByte find table listing declaration withAttributes head attributes attributesIn pair leb128 numberOfBytes numberBytes someBeyond beyond complete base128 fitted parts place placesFrom sizes wordBytes hashBytes longest readNumber skipped spelled digits
+unfolding caseA indexA entryStep moved seriesEntry entry values kept noAttribute first formValue asFlag asUnsigned asOffset readByte find table listing declaration withAttributes head attributes attributesIn pair leb128 numberOfBytes numberBytes someBeyond beyond complete base128 fitted parts place placesFrom sizes wordBytes hashBytes longest readNumber skipped spelled digits
 steps-of-a = step-then refl (step-then refl (step-then refl no-steps))
 
 pub facts-of-a : FactsOfA
-unfolding caseA indexA entryDieOffset entryParent dieOffset dieOffsetIn parentOf entry nameEntry values first formValue asFlag asUnsigned asOffset readByte find table listing declaration withAttributes head attributes attributesIn pair leb128 numberOfBytes numberBytes someBeyond beyond complete base128 fitted parts place placesFrom sizes wordBytes hashBytes longest readNumber skipped spelled digits
+unfolding caseA indexA entryDieOffset entryParent dieOffset dieOffsetIn parentOf parentIn entry nameEntry values kept noAttribute first formValue asFlag asUnsigned asOffset readByte find table listing declaration withAttributes head attributes attributesIn pair leb128 numberOfBytes numberBytes someBeyond beyond complete base128 fitted parts place placesFrom sizes wordBytes hashBytes longest readNumber skipped spelled digits
 facts-of-a = (refl, refl)

@@ -8,11 +8,11 @@ use Rattle.reader.specs.Listing.{listing}
 use Rattle.abbreviations.specs.Abbreviations.{pair, attributesIn, attributes, head, withAttributes, declaration, table, find}
 use Rattle.index.specs.Layout.{wordBytes, hashBytes, sizes, placesFrom, place, parts, fitted}
 use Rattle.forms.specs.Forms.{asFlag, asUnsigned, asOffset, formValue}
-use Rattle.attributes.specs.Attributes.{values, first}
+use Rattle.attributes.specs.Attributes.{values, kept, noAttribute, first}
 use Rattle.entries.specs.Entries.{entry, nameEntry, nameEntryHanded}
 use Rattle.p_cases.specs.CaseA.{caseA, indexA}
 use Rattle.p_cases.specs.Cases.{PCases}
 
 pub p-cases : PCases
-unfolding PCases caseA indexA nameEntryHanded entry nameEntry values first formValue asFlag asUnsigned asOffset readByte find table listing declaration withAttributes head attributes attributesIn pair leb128 numberOfBytes numberBytes someBeyond beyond complete base128 fitted parts place placesFrom sizes wordBytes hashBytes longest readNumber skipped spelled digits
+unfolding PCases caseA indexA nameEntryHanded entry nameEntry values kept noAttribute first formValue asFlag asUnsigned asOffset readByte find table listing declaration withAttributes head attributes attributesIn pair leb128 numberOfBytes numberBytes someBeyond beyond complete base128 fitted parts place placesFrom sizes wordBytes hashBytes longest readNumber skipped spelled digits
 p-cases = refl

@@ -5,20 +5,8 @@ use Rattle.attributes.specs.Meaning.{dieOffset, dieOffsetIn}
 use Rattle.attributes.proofs.attribute.die_offset.Statement.{statement}
 use Rattle.attributes.proofs.attribute.die_offset.Tie as tie
 
-enum-known-first : tie.Need-enum-known-first
-enum-known-first c = search needs
-
 enum-told : tie.Need-enum-told
 enum-told c = search needs
-
-returns : tie.Need-returns
-unfolding dieOffset dieOffsetIn
-returns c =
-    rw
-    (c .enum-told .given .1)
-
-enum-known-value : tie.Need-enum-known-value
-enum-known-value c = search needs
 
 enum-told-2 : tie.Need-enum-told-2
 enum-told-2 c = search needs
@@ -26,40 +14,34 @@ enum-told-2 c = search needs
 enum-told-3 : tie.Need-enum-told-3
 enum-told-3 c = search needs
 
+enum-told-4 : tie.Need-enum-told-4
+enum-told-4 c = search needs
+
+returns : tie.Need-returns
+unfolding dieOffset dieOffsetIn
+returns c =
+    rw
+    (c .enum-told .given .1)
+
 returns-2 : tie.Need-returns-2
 unfolding dieOffset dieOffsetIn
 returns-2 c =
-    rw (
-      c .before .before .before .before .first .given .1,
-      c .before .value .given .1,
-    )
+    rw
+    (c .enum-told2 .given .1)
 
 returns-3 : tie.Need-returns-3
 unfolding dieOffset dieOffsetIn
 returns-3 c =
-    rw (
-      c .before .before .before .first .given .1,
-      c .enum-told2 .given .1,
-    )
+    rw
+    (c .enum-told3 .given .1)
 
 returns-4 : tie.Need-returns-4
 unfolding dieOffset dieOffsetIn
 returns-4 c =
-    rw (
-      c .before .before .before .first .given .1,
-      c .enum-told3 .given .1,
-    )
+    rw
+    (c .enum-told4 .given .1)
 
 pub die-offset-spec : {M : Type 1} → statement M
 die-offset-spec =
     tie.close
-    (tie.spec
-    enum-known-first
-    enum-told
-    returns
-    enum-known-value
-    enum-told-2
-    enum-told-3
-    returns-2
-    returns-3
-    returns-4)
+    (tie.spec enum-told enum-told-2 enum-told-3 enum-told-4 returns returns-2 returns-3 returns-4)

@@ -2,7 +2,7 @@
 -- Assumes nothing.
 use borrow.Author.Needs.{needs}
 use borrow.Author.Tests.{ne-eqb}
-use Rattle.attributes.specs.Attributes.{kept}
+use Rattle.attributes.specs.Attributes.{withFact}
 use Rattle.attributes.proofs.facts.keep.Statement.{statement}
 use Rattle.attributes.proofs.facts.keep.Tie as tie
 
@@ -22,7 +22,7 @@ or-else-requires-5 : tie.Need-or-else-requires-5
 or-else-requires-5 c κs = search needs
 
 returns : tie.Need-returns
-unfolding kept
+unfolding withFact
 returns c =
     rw (
       ← c .or-else .ensures,
@@ -30,7 +30,7 @@ returns c =
     )
 
 returns-2 : tie.Need-returns-2
-unfolding kept
+unfolding withFact
 returns-2 c =
     rw (
       ← c .or-else2 .ensures,
@@ -38,7 +38,7 @@ returns-2 c =
     )
 
 returns-3 : tie.Need-returns-3
-unfolding kept
+unfolding withFact
 returns-3 c =
     rw (
       ← c .or-else3 .ensures,
@@ -46,7 +46,7 @@ returns-3 c =
     )
 
 returns-4 : tie.Need-returns-4
-unfolding kept
+unfolding withFact
 returns-4 c =
     rw (
       ← c .or-else4 .ensures,
@@ -54,7 +54,7 @@ returns-4 c =
     )
 
 returns-5 : tie.Need-returns-5
-unfolding kept
+unfolding withFact
 returns-5 c =
     rw (
       ← c .or-else5 .ensures,
@@ -62,7 +62,7 @@ returns-5 c =
     )
 
 returns-6 : tie.Need-returns-6
-unfolding kept
+unfolding withFact
 returns-6 c =
     rw (
       ne-eqb _ _ (c .match .rest .0 .0 .0 .0 .1),

@@ -1,12 +1,12 @@
--- `attributes::facts::no_facts` meets its contract: each answer is the definition's, by the calls and the tests that led there.
+-- `attributes::facts::no_facts` meets its contract: it is the definition's.
 -- Assumes nothing.
 use mathlib.Core.Path.{refl}
-use Rattle.attributes.specs.Attributes.{noFacts, facts, first}
+use Rattle.attributes.specs.Attributes.{noFacts, noAttribute}
 use Rattle.attributes.proofs.facts.no_facts.Statement.{statement}
 use Rattle.attributes.proofs.facts.no_facts.Tie as tie
 
 returns : tie.Need-returns
-unfolding noFacts facts first
+unfolding noFacts noAttribute
 returns c = refl
 
 pub no-facts-spec : {M : Type 1} → statement M

@@ -74,26 +74,30 @@ returns-3 c =
       c .before .e2 .given .1,
     )
 
+keep-attribute-requires : tie.Need-keep-attribute-requires Inv-loop μ-loop
+keep-attribute-requires c κs = search needs
+
 keep-requires : tie.Need-keep-requires Inv-loop μ-loop
 keep-requires c κs = search needs
 
 loop-less : tie.Need-loop-less Inv-loop μ-loop
 loop-less c =
-    let a = c .before .before .before .before .before .before .before .before .before .before .before .before .before .before .args in
-    let l = c .before .before .before .before .before .before .before .before .before .before .before .loop in
-    let read = rw (c .before .before .before .before .before .before .before .before .r .given .1) at (c .before .before .before .before .before .before .before .before .before .before .read-attribute .ensures) in
+    let a = c .before .before .before .before .before .before .before .before .before .before .before .before .before .before .before .args in
+    let l = c .before .before .before .before .before .before .before .before .before .before .before .before .loop in
+    let read = rw (c .before .before .before .before .before .before .before .before .before .r .given .1) at (c .before .before .before .before .before .before .before .before .before .before .before .read-attribute .ensures) in
     omega (arith, pair-forward (now (a .s)) (l .pair) (a .pairs-end) _ (sym read))
 
 loop-again : tie.Need-loop-again Inv-loop μ-loop
 loop-again c =
     rw (
-      c .before .before .before .before .before .before .before .before .before .before .before .loop .inv,
+      c .before .before .before .before .before .before .before .before .before .before .before .before .loop .inv,
       facts-step,
-      ← c .before .before .before .before .before .before .before .before .before .before .read-attribute .ensures,
-      c .before .before .before .before .before .before .before .before .r .given .1,
-      ne-eqb _ _ (c .before .before .before .before .before .if1 .left),
-      ← c .before .before .before .before .read-debug-names-form-value .ensures,
-      c .before .before .r2 .given .1,
+      ← c .before .before .before .before .before .before .before .before .before .before .before .read-attribute .ensures,
+      c .before .before .before .before .before .before .before .before .before .r .given .1,
+      ne-eqb _ _ (c .before .before .before .before .before .before .if1 .left),
+      ← c .before .before .before .before .before .read-debug-names-form-value .ensures,
+      c .before .before .before .r2 .given .1,
+      ← c .before .keep-attribute .ensures,
       ← c .keep .ensures,
     )
 
@@ -114,6 +118,7 @@ read-facts-spec =
     enum-known-r-2
     enum-known-e-2
     returns-3
+    keep-attribute-requires
     keep-requires
     loop-less
     loop-again)

@@ -29,8 +29,8 @@ returns-2 : tie.Need-returns-2
 returns-2 c =
     rw (
       compile-unit-step,
-      ← c .before .before .before .before .before .whole-entry .ensures,
-      c .before .before .before .w .given .1,
+      ← c .before .before .before .before .before .before .whole-entry .ensures,
+      c .before .before .before .before .w .given .1,
       ← c .compile-unit .ensures,
     )
 
