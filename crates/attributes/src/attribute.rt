@@ -2,9 +2,7 @@
 // and the form, and where no attribute has the name, the answer is none.
 ghost use mathlib.Core.Path.{_≡_};
 ghost use Rattle.attributes.specs.Answers.{unitNumberOutcome, dieOffsetOutcome, parentOutcome, typeHashOutcome};
-ghost use Rattle.attributes.specs.Attributes.{kept};
 ghost use Rattle.attributes.specs.Meaning.{unitNumber, dieOffset, parentOf, typeHash};
-use forms::NameAttributeValue;
 use reader::Error;
 use reader::NameEntryOffset;
 use reader::UnitOffset;
@@ -75,29 +73,6 @@ pub enum TypeHashRead {
 
 // The most that the number of a unit may be.
 const LAST_UNIT: u64 = 4294967295;
-
-// What is kept of an attribute with that form and value.
-pub fn keep_attribute(form: u16, value: NameAttributeValue) -> FirstAttribute
-    ensures { λ r. ⌜ r ≡ kept form value ⌝ }
-{
-    match value {
-        NameAttributeValue::Unsigned(n) => FirstAttribute {
-            form: form,
-            kind: Kind::Unsigned,
-            number: n,
-        },
-        NameAttributeValue::Offset(n) => FirstAttribute {
-            form: form,
-            kind: Kind::Offset,
-            number: n as u64,
-        },
-        NameAttributeValue::Flag(b) => FirstAttribute {
-            form: form,
-            kind: Kind::Flag,
-            number: if b { 1 } else { 0 },
-        },
-    }
-}
 
 // The number of a unit: unsigned, and at most 4,294,967,295, else 11.
 pub fn unit_number(first: FirstAttribute) -> UnitNumberRead

@@ -3,12 +3,12 @@
 // attributes").
 use crate::attribute::FirstAttribute;
 use crate::attribute::Kind;
-use crate::attribute::keep_attribute;
 ghost use mathlib.Core.Path.{_≡_};
 ghost use Rattle.attributes.specs.Answers.{factsOutcome};
-ghost use Rattle.attributes.specs.Attributes.{orElse, withFact, noFacts, factsRead};
+ghost use Rattle.attributes.specs.Attributes.{kept, orElse, withFact, noFacts, factsRead};
 use abbreviations::AttributeRead;
 use abbreviations::read_attribute;
+use forms::NameAttributeValue;
 use forms::ValueRead;
 use forms::read_debug_names_form_value;
 use reader::Error;
@@ -32,6 +32,29 @@ pub struct ReadFacts {
 pub enum FactsRead {
     Value(ReadFacts),
     Refused(Error),
+}
+
+// What is kept of an attribute with that form and value.
+fn keep_attribute(form: u16, value: NameAttributeValue) -> FirstAttribute
+    ensures { λ r. ⌜ r ≡ kept form value ⌝ }
+{
+    match value {
+        NameAttributeValue::Unsigned(n) => FirstAttribute {
+            form: form,
+            kind: Kind::Unsigned,
+            number: n,
+        },
+        NameAttributeValue::Offset(n) => FirstAttribute {
+            form: form,
+            kind: Kind::Offset,
+            number: n as u64,
+        },
+        NameAttributeValue::Flag(b) => FirstAttribute {
+            form: form,
+            kind: Kind::Flag,
+            number: if b { 1 } else { 0 },
+        },
+    }
 }
 
 // The attribute that was kept, and where none was, this one.

@@ -15,7 +15,6 @@ pub use attribute::TypeHashRead;
 pub use attribute::UnitNumber;
 pub use attribute::UnitNumberRead;
 pub use attribute::die_offset;
-pub use attribute::keep_attribute;
 pub use attribute::parent;
 pub use attribute::type_hash;
 pub use attribute::unit_number;

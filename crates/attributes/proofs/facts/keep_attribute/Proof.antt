@@ -1,9 +1,9 @@
--- `attributes::attribute::keep_attribute` meets its contract: each kind of value is kept as the definition has it.
+-- `attributes::facts::keep_attribute` meets its contract: each kind of value is kept as the definition has it.
 -- Assumes nothing.
 use borrow.Author.Needs.{needs}
 use Rattle.attributes.specs.Attributes.{kept}
-use Rattle.attributes.proofs.attribute.keep_attribute.Statement.{statement}
-use Rattle.attributes.proofs.attribute.keep_attribute.Tie as tie
+use Rattle.attributes.proofs.facts.keep_attribute.Statement.{statement}
+use Rattle.attributes.proofs.facts.keep_attribute.Tie as tie
 
 enum-known-value : tie.Need-enum-known-value
 enum-known-value c = search needs
