@@ -48,6 +48,7 @@ pub use reader::read_u64;
 pub use reader::read_word;
 pub use reader::skip;
 pub use reader::split;
+pub use reader::u32_at;
 pub use str::DebugStr;
 pub use str::Str;
 pub use str::StrRead;

@@ -178,7 +178,7 @@ fn u16_at(order: RunTimeEndian, s: &[u8], at: usize) -> u16
 }
 
 // The four bytes at a place, in the order given.
-fn u32_at(order: RunTimeEndian, s: &[u8], at: usize) -> u32
+pub fn u32_at(order: RunTimeEndian, s: &[u8], at: usize) -> u32
     requires { ⌜ at + 4 ≤ length (now s) ⌝ }
     ensures { λ r. ⌜ r ≡ numberAt order 4 (now (s .entry)) at ⌝ }
 {

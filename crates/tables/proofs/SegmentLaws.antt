@@ -1,0 +1,131 @@
+-- Laws of segments: what the segment of a name says, and that a bucket's run reaches a name exactly if it starts in the name's segment, at
+-- the name or before it.
+use Prim.Native.Nat.{ℕ, suc, _+_, _-_, _≤_, _<_}
+use mathlib.Core.Path.{_≡_, refl, sym, ap, _∙_}
+use mathlib.Core.Bool.{Bool, true, false, cond}
+use mathlib.Core.List.{List, []}
+use native.Mathlib.Omega.{arith}
+use lib.Dec.{ltb, leb, eqb}
+use borrow.Author.Tests.{ltb-true, ltb-false, leb-true, leb-false, eqb-true, eqb-false, ne-eqb}
+use Rattle.index.specs.declared.layout.NameIndex.{NameIndex}
+use Rattle.hashes.specs.Lists.{memberb}
+use Rattle.hashes.specs.Table.{bucketOf, runFrom, fromStart}
+use Rattle.hashes.proofs.ListLaws.{past-other}
+use Rattle.hashes.proofs.TableLaws.{bucket-below, in-run, of-run}
+use Rattle.tables.specs.declared.Segment.{Segment}
+use Rattle.tables.specs.Segments.{followed, missesAt}
+
+-- at a name one name is missed at most
+pub misses-most : (r : ℕ) (g : Segment) (name : ℕ) → r ≡ missesAt g name → r ≤ 1
+unfolding missesAt
+misses-most r g name e = rw e (tested (leb (g .start) (g .first)) (ltb name (g .start - 1)))
+  where
+    tested : (t u : Bool) → cond t 1 (cond u 1 0) ≤ 1
+    tested true u = omega arith
+    tested false true = omega arith
+    tested false false = omega arith
+
+module _ (i : NameIndex) (startOf hashOf : ℕ → ℕ) where
+  -- the segment before a name: all names from its first on belong to its bucket, the one before its first does not, it has the name before
+  -- this one, and the start is the bucket's
+  pub record Before (name : ℕ) (g : Segment) : Type 0 where
+    pub begins : g .first ≤ name
+    pub together : (m : ℕ) → g .first ≤ m → m < name → bucketOf i (hashOf m) ≡ g .bucket
+    pub apart : 0 < g .first → bucketOf i (hashOf (g .first - 1)) ≡ g .bucket → ⊥
+    pub last : 0 < name → g .first < name
+    pub starts : g .bucket < i .«bucket_count» → g .start ≡ startOf (g .bucket)
+
+  -- before the first name there is none
+  pub before-first : Before 0 (record { bucket = i .«bucket_count»; first = 0; start = 0 })
+  before-first = record {
+    begins = omega arith;
+    together = λ m h k. absurd (omega arith);
+    apart = λ h k. absurd (omega arith);
+    last = λ h. absurd (omega arith);
+    starts = λ h. absurd (omega arith);
+  }
+
+  pub before-next : (name : ℕ) (g : Segment) → Before name g → Before (name + 1) (followed i startOf g name (hashOf name))
+  unfolding followed
+  before-next name g b = tested (eqb (bucketOf i (hashOf name)) (g .bucket)) refl
+    where
+      new : Segment
+      new = record { bucket = bucketOf i (hashOf name); first = name; start = startOf (bucketOf i (hashOf name)) }
+
+      tested : (t : Bool) → eqb (bucketOf i (hashOf name)) (g .bucket) ≡ t → Before (name + 1) (cond t g new)
+      tested true e =
+          let begins = b .begins in
+          record {
+            begins = omega arith;
+            together = λ m h k. of-name m (eqb m name) refl h k;
+            apart = b .apart;
+            last = λ h. omega arith;
+            starts = b .starts;
+          }
+        where
+          of-name : (m : ℕ) (t : Bool) → eqb m name ≡ t → g .first ≤ m → m < name + 1 → bucketOf i (hashOf m) ≡ g .bucket
+          of-name m true same h k = rw (eqb-true m name same) (eqb-true _ _ e)
+          of-name m false other h k = b .together m h (below (eqb-false m name other))
+            where
+              below : (m ≡ name → ⊥) → m < name
+              below differs = by-order (ltb m name) refl
+                where
+                  by-order : (t : Bool) → ltb m name ≡ t → m < name
+                  by-order true f = ltb-true m name f
+                  by-order false f = let least = ltb-false m name f in absurd (differs (omega arith))
+      tested false e = record {
+        begins = omega arith;
+        together = λ m h k. let here : m ≡ name = omega arith in rw here;
+        apart = λ h k. let begins = b .last h in eqb-false _ _ e (sym k ∙ b .together (name - 1) (omega arith) (omega arith));
+        last = λ h. omega arith;
+        starts = λ h. refl;
+      }
+
+  -- the segment of a name is of the name's bucket
+  pub followed-bucket : (name : ℕ) (g : Segment) → followed i startOf g name (hashOf name) .bucket ≡ bucketOf i (hashOf name)
+  unfolding followed
+  followed-bucket name g = tested (eqb (bucketOf i (hashOf name)) (g .bucket)) refl
+    where
+      tested : (t : Bool) → eqb (bucketOf i (hashOf name)) (g .bucket) ≡ t
+          → cond t g (record { bucket = bucketOf i (hashOf name); first = name; start = startOf (bucketOf i (hashOf name)) }) .bucket ≡ bucketOf i (hashOf name)
+      tested true e = sym (eqb-true _ _ e)
+      tested false e = refl
+
+  -- so a name is missed exactly where its segment says so
+  pub misses-member : (name : ℕ) (g : Segment) → Before (name + 1) g → g .bucket ≡ bucketOf i (hashOf name) → name < i .«name_count» → 0 < i .«bucket_count»
+      → missesAt g name ≡ cond (memberb name (fromStart (startOf (bucketOf i (hashOf name))) (runFrom i hashOf (bucketOf i (hashOf name))))) 0 1
+  unfolding missesAt fromStart memberb
+  misses-member name g b same below some =
+      rw (b .starts (rw same (bucket-below i (hashOf name) some)), same) (tested (leb start (g .first)) (ltb name (start - 1)) (eqb start 0) refl refl refl)
+    where
+      bucket : ℕ
+      bucket = bucketOf i (hashOf name)
+
+      start : ℕ
+      start = startOf (bucketOf i (hashOf name))
+
+      -- where the run cannot have the name
+      not-in : (t : Bool) → memberb name (runFrom i hashOf bucket (start - 1)) ≡ t → (memberb name (runFrom i hashOf bucket (start - 1)) ≡ true → ⊥) → _≡_ {A = ℕ} 1 (cond t 0 1)
+      not-in true e never = absurd (never e)
+      not-in false e never = refl
+
+      tested : (t u v : Bool) → leb start (g .first) ≡ t → ltb name (start - 1) ≡ u → eqb start 0 ≡ v
+          → _≡_ {A = ℕ} (cond t 1 (cond u 1 0)) (cond (memberb name (cond v [] (runFrom i hashOf bucket (start - 1)))) 0 1)
+      tested true u true e f k = refl
+      tested true u false e f k =
+          let before = leb-true start (g .first) e in
+          let begins = b .last (omega arith) in
+          not-in (memberb name (runFrom i hashOf bucket (start - 1))) refl
+          (λ h. let (above, below, all) = of-run i hashOf bucket name (start - 1) h in b .apart (some-before before (eqb-false start 0 k)) (all (g .first - 1) (omega arith) (omega arith) ∙ sym same))
+        where
+          some-before : start ≤ g .first → (start ≡ 0 → ⊥) → 0 < g .first
+          some-before h other = let least = past-other start 0 (omega arith) other in omega arith
+      tested false u true e f k = absurd (omega (arith, leb-false start (g .first) e, eqb-true start 0 k))
+      tested false true false e f k =
+          let past = ltb-true name (start - 1) f in
+          not-in (memberb name (runFrom i hashOf bucket (start - 1))) refl (λ h. let (above, below, all) = of-run i hashOf bucket name (start - 1) h in omega arith)
+      tested false false false e f k =
+          let after = leb-false start (g .first) e in
+          let upto = ltb-false name (start - 1) f in
+          let reached = in-run i hashOf bucket name (name - (start - 1)) (start - 1) (omega arith) below (λ m h l. b .together m (omega arith) (omega arith) ∙ same) in
+          rw reached

@@ -1,0 +1,56 @@
+-- The table check: document 01, "Buckets and hashes". `s` is the section.
+use Prim.Native.Nat.{ℕ, suc, _+_}
+use mathlib.Core.Bool.{Bool, not, cond}
+use mathlib.Core.List.{List, [], _∷_}
+use lib.ListN.{length}
+use lib.Dec.{ltb, eqb}
+use Rattle.reader.specs.Outcome.{Outcome, answered, _>>=_, _>>_, refuseIf}
+use Rattle.reader.specs.Errors.{refusal}
+use Rattle.reader.specs.declared.endianity.RunTimeEndian.{RunTimeEndian}
+use Rattle.index.specs.declared.layout.NameIndex.{NameIndex}
+use Rattle.index.specs.Layout.{parts, fitted}
+use Rattle.hashes.specs.Lists.{numbersFrom, filterb, memberb}
+use Rattle.hashes.specs.Table.{storedStart, storedHash, bucketOf, namesFrom, run}
+use Rattle.tables.specs.declared.TableCheck.{TableCheck}
+
+-- what the check says
+pub data Checked : Type 0 where
+  no-table : Checked
+  complete : Checked
+  -- with the number of missed names
+  incomplete : ℕ → Checked
+
+-- the outcome that the code's answer stands for
+abbrev pub checkOutcome : TableCheck → Outcome Checked
+checkOutcome TableCheck.NoTable = answered no-table
+checkOutcome TableCheck.Complete = answered complete
+checkOutcome (TableCheck.Incomplete n) = answered (incomplete (n .missed))
+checkOutcome (TableCheck.Refused e) = refusal e
+
+-- whether a bucket's start is above N + 1, and whether some bucket has such a start
+unfoldable pub beyond : ℕ → (ℕ → ℕ) → ℕ → Bool
+beyond names startOf bucket = ltb (names + 1) (startOf bucket)
+
+unfoldable pub anyBeyond : ℕ → (ℕ → ℕ) → ℕ → Bool
+anyBeyond names startOf buckets = ltb 0 (length (filterb (beyond names startOf) (numbersFrom 0 buckets)))
+
+-- whether a name is not in the run of its own bucket
+unfoldable pub isMissed : RunTimeEndian → List ℕ → NameIndex → ℕ → Bool
+isMissed order s i name = not (memberb name (run order s i (bucketOf i (storedHash order s (parts i) name))))
+
+-- the missed names
+unfoldable pub missedNames : RunTimeEndian → List ℕ → NameIndex → List ℕ
+missedNames order s i = filterb (isMissed order s i) (namesFrom i 0)
+
+-- complete where no name is missed
+unfoldable pub verdict : ℕ → Checked
+verdict missed = cond (eqb missed 0) complete (incomplete missed)
+
+unfoldable pub tableCheck : RunTimeEndian → List ℕ → NameIndex → Outcome Checked
+tableCheck order s i = do
+  p ← fitted s i
+  cond (eqb (i .«bucket_count») 0)
+      (answered no-table)
+      (do
+        refuseIf (anyBeyond (i .«name_count») (storedStart order s p) (i .«bucket_count»)) 1 (p .«hash_table_data»)
+        answered (verdict (length (missedNames order s i))))

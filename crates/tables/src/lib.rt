@@ -1,0 +1,130 @@
+// Whether the hash table of an index reaches every name (document 01, "Buckets and hashes": the table check, which gimli does not have).
+//
+// A name is missed if the run of its own bucket does not reach it: a lookup by its hash then does not list it. The names are passed once,
+// in segments: a segment is a row of names that follow one another in one bucket. The run of a bucket goes no further than its first name of
+// another bucket, so it reaches a name exactly if it starts in that name's segment, at the name or before it.
+ghost use mathlib.Core.Path.{_≡_};
+ghost use Prim.Native.Nat.{_+_, _*_, _≤_};
+ghost use lib.ListN.{length};
+ghost use Rattle.hashes.specs.Table.{nthOf, bucketOf};
+ghost use Rattle.tables.specs.Check.{checkOutcome, anyBeyond, tableCheck};
+ghost use Rattle.tables.specs.Segments.{followed, missesAt};
+use hashes::bucket_of;
+use hashes::nth_u32;
+use index::NameIndex;
+use index::PartsRead;
+use index::fit;
+use reader::Error;
+use reader::RunTimeEndian;
+
+// What is wrong with an incomplete table: how many names it misses.
+pub struct Incomplete {
+    pub missed: u32,
+}
+
+// What the check of a table says.
+pub enum TableCheck {
+    // The index has no hash table.
+    NoTable,
+    // A lookup lists every name.
+    Complete,
+    Incomplete(Incomplete),
+    Refused(Error),
+}
+
+// The names that precede a name without a break in one bucket: the bucket, the first of them, and the bucket's stored start.
+pub struct Segment {
+    pub bucket: u32,
+    pub first: u32,
+    pub start: u32,
+}
+
+// Whether some bucket's start is beyond the place after the last name.
+fn any_beyond(order: RunTimeEndian, section: &[u8], starts: usize, buckets: u32, names: u32) -> bool
+    requires { ⌜ starts + 4 * buckets ≤ length (now section) ⌝ }
+    ensures { λ r. ⌜ r ≡ anyBeyond names (nthOf order (now (section .entry)) starts) buckets ⌝ }
+{
+    let last = names as usize + 1;
+    let mut bucket: u32 = 0;
+    while bucket < buckets {
+        let start = nth_u32(order, section, starts, bucket) as usize;
+        if last < start {
+            return true;
+        }
+        bucket = bucket + 1;
+    }
+    false
+}
+
+// The segment of a name that stores the hash, from the segment of the name before it.
+fn follow(
+    order: RunTimeEndian,
+    section: &[u8],
+    index: NameIndex,
+    starts: usize,
+    before: Segment,
+    name: u32,
+    hash: u32,
+) -> Segment
+    requires { ⌜ starts + 4 * (bucketOf index hash) + 4 ≤ length (now section) ⌝ }
+    ensures { λ r. ⌜ r ≡ followed index (nthOf order (now (section .entry)) starts) before name hash ⌝ }
+{
+    let bucket = bucket_of(index, hash);
+    if bucket == before.bucket {
+        return before;
+    }
+    Segment {
+        bucket: bucket,
+        first: name,
+        start: nth_u32(order, section, starts, bucket),
+    }
+}
+
+// How many names are missed at a name of the segment: none if the run of the segment's bucket reaches it, and else one.
+fn misses(segment: Segment, name: u32) -> u32
+    ensures { λ r. ⌜ r ≡ missesAt segment name ⌝ }
+{
+    if segment.start <= segment.first {
+        return 1;
+    }
+    if name < segment.start - 1 {
+        return 1;
+    }
+    0
+}
+
+// Whether a lookup by hash lists every name: no table, a refusal for a start that is beyond the place after the last name, complete, or
+// incomplete with the number of names that are missed.
+pub fn check_table(order: RunTimeEndian, section: &[u8], index: NameIndex) -> TableCheck
+    ensures { λ r. ⌜ checkOutcome r ≡ tableCheck order (now (section .entry)) index ⌝ }
+{
+    let p = match fit(section, index) {
+        PartsRead::Value(p) => p,
+        PartsRead::Refused(e) => return TableCheck::Refused(e),
+    };
+    let starts = p.bucket_data;
+    let hashes = p.hash_table_data;
+    if index.bucket_count == 0 {
+        return TableCheck::NoTable;
+    }
+    if any_beyond(order, section, starts, index.bucket_count, index.name_count) {
+        return TableCheck::Refused(Error::UnexpectedEof(hashes));
+    }
+    let mut segment = Segment {
+        bucket: index.bucket_count,
+        first: 0,
+        start: 0,
+    };
+    let mut missed: u32 = 0;
+    let mut name: u32 = 0;
+    while name < index.name_count {
+        let hash = nth_u32(order, section, hashes, name);
+        segment = follow(order, section, index, starts, segment, name, hash);
+        missed = missed + misses(segment, name);
+        name = name + 1;
+    }
+    if missed == 0 {
+        return TableCheck::Complete;
+    }
+    TableCheck::Incomplete(Incomplete { missed: missed })
+}
