@@ -129,3 +129,37 @@ member-numbers m a (suc k) above below = chosen (eqb m a) refl (λ h. member-num
     chosen : (t : Bool) → eqb m a ≡ t → (a + 1 ≤ m → memberb m (numbersFrom (a + 1) k) ≡ true) → cond t true (memberb m (numbersFrom (a + 1) k)) ≡ true
     chosen true e more = refl
     chosen false e more = more (past-other m a above (eqb-false m a e))
+
+-- where the test holds for none of the numbers from a on, below a + k, it takes none
+pub filter-none : (test : ℕ → Bool) (a k : ℕ) → ((m : ℕ) → a ≤ m → m < a + k → test m ≡ false) → filterb test (numbersFrom a k) ≡ []
+unfolding numbersFrom filterb
+filter-none test a zero never = refl
+filter-none test a (suc k) never = rw (never a (omega arith) (omega arith)) (filter-none test (a + 1) k (λ m h l. never m (omega arith) (omega arith)))
+
+-- where it holds for none below b, what it takes of the numbers from a on, below n, is what it takes of those from b on
+pub filter-later : (test : ℕ → Bool) (n a k : ℕ) → ((m : ℕ) → a ≤ m → m < a + k → m < n → test m ≡ false)
+    → filterb test (numbersFrom a (n - a)) ≡ filterb test (numbersFrom (a + k) (n - (a + k)))
+unfolding numbersFrom filterb
+filter-later test n a zero never = let same : a + 0 ≡ a = omega arith in rw same
+filter-later test n a (suc k) never =
+    let next : a + suc k ≡ (a + 1) + k = omega arith in
+    rw (next, filter-step test n a) (tested (ltb a n) refl (filter-later test n (a + 1) k (λ m h l f. never m (omega arith) (omega arith) f)))
+  where
+    after : List ℕ
+    after = filterb test (numbersFrom (a + 1) (n - (a + 1)))
+
+    later : List ℕ
+    later = filterb test (numbersFrom ((a + 1) + k) (n - ((a + 1) + k)))
+
+    tested : (t : Bool) → ltb a n ≡ t → after ≡ later → cond t (cond (test a) (a ∷ after) after) [] ≡ later
+    tested true e rest = rw (never a (omega arith) (omega arith) (ltb-true a n e)) rest
+    tested false e rest =
+        let above = ltb-false a n e in
+        let none-left : n - ((a + 1) + k) ≡ 0 = omega arith in
+        rw none-left
+
+-- a list of no elements has no number
+pub no-members : (n : ℕ) (l : List ℕ) → length l ≡ 0 → memberb n l ≡ true → ⊥
+unfolding memberb
+no-members n [] none h = false-true h
+no-members n (m ∷ ms) none h = omega arith

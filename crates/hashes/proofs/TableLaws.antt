@@ -4,7 +4,7 @@ use mathlib.Core.Path.{_≡_, refl, sym, ap, _∙_}
 use mathlib.Core.Bool.{Bool, true, false, cond}
 use mathlib.Core.List.{List, [], _∷_}
 use native.Mathlib.Omega.{arith}
-use native.Mathlib.Nat.{mod-lt}
+use native.Mathlib.Nat.{mod-lt, mod-eq-of-lt}
 use lib.ListN.{length, take, length-take}
 use lib.Dec.{leb, eqb}
 use borrow.Author.Tests.{leb-true, leb-false, lt-leb, eqb-true, eqb-false, eq-eqb, ne-eqb}
@@ -63,6 +63,11 @@ starts-within s i p given =
 pub bucket-below : (i : NameIndex) (hash : ℕ) → 0 < i .«bucket_count» → bucketOf i hash < i .«bucket_count»
 unfolding bucketOf
 bucket-below i hash some = rw (ne-eqb (i .«bucket_count») 0 (λ e. omega (arith, e))) (mod-lt hash some)
+
+-- and a bucket's number is a hash of that bucket
+pub bucket-itself : (i : NameIndex) (bucket : ℕ) → bucket < i .«bucket_count» → bucketOf i bucket ≡ bucket
+unfolding bucketOf
+bucket-itself i bucket below = rw (ne-eqb (i .«bucket_count») 0 (λ e. omega (arith, e)), mod-eq-of-lt below)
 
 module _ (i : NameIndex) where
   -- the names from a number on: it and those after it, or none at N and above

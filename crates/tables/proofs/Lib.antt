@@ -1,3 +1,4 @@
 -- Laws of the definitions. Callers cite these, and do not unfold.
 pub mod SegmentLaws
 pub mod CheckLaws
+pub mod CompleteLaws

@@ -1,0 +1,265 @@
+-- Demand 3 for completeness: the check says complete exactly when the lookup of every hash lists all names that store it.
+use Prim.Native.Nat.{ℕ, zero, suc, _+_, _-_, _*_, _%_, _^_, _≤_, _<_}
+use mathlib.Core.Path.{_≡_, refl, sym, ap, _∙_}
+use mathlib.Core.Bool.{Bool, true, false, not, cond}
+use mathlib.Core.Logic.{_↔_, ⊎-elim}
+use mathlib.Core.List.{List, [], _∷_, map}
+use mathlib.Core.Option.{Option, some, none}
+use native.Mathlib.Omega.{arith}
+use native.Mathlib.Nat.{mod-eq-of-lt}
+use lib.ListN.{length, take, length-map}
+use lib.Seq.{take-all}
+use lib.Dec.{ltb, leb, eqb}
+use borrow.Author.Tests.{ltb-true, ltb-false, lt-ltb, le-ltb, leb-true, leb-false, eqb-true, eqb-false, eq-eqb, ne-eqb, not-false}
+use Rattle.reader.specs.Outcome.{Outcome, answered, refused, _>>=_, _>>_, refuseIf}
+use Rattle.reader.specs.Errors.{longest}
+use Rattle.reader.specs.Numbers.{Bytes, numberAt}
+use Rattle.reader.specs.Steps.{Linked, hasEnd, upToEnd, ListsInOrder}
+use Rattle.reader.specs.declared.endianity.RunTimeEndian.{RunTimeEndian}
+use Rattle.reader.specs.declared.common.NameTableIndex.{NameTableIndex}
+use Rattle.reader.proofs.OutcomeLaws.{refused-answered, same-answer, bind-answered, then-answered, passed, cond-is}
+use Rattle.reader.proofs.NumberLaws.{number-read, read-below}
+use Rattle.index.specs.declared.layout.NameIndex.{NameIndex}
+use Rattle.index.specs.declared.layout.Parts.{Parts}
+use Rattle.index.specs.Layout.{parts, Fits, fitted}
+use Rattle.index.proofs.LayoutLaws.{fitted-answered, fitted-fits}
+use Rattle.hashes.specs.declared.bucket.BucketIter.{BucketIter}
+use Rattle.hashes.specs.declared.hash.NameHashIter.{NameHashIter}
+use Rattle.hashes.specs.declared.hash.HashRead.{HashRead}
+use Rattle.hashes.specs.declared.hash.NameHashStep.{NameHashStep}
+use Rattle.hashes.specs.Lists.{numbersFrom, filterb, memberb}
+use Rattle.hashes.specs.Table.{nthOf, storedStart, storedHash, bucketOf, namesFrom, runFrom, fromStart, run, storing, namesOfHash, allStoring}
+use Rattle.hashes.specs.Lookups.{findByBucket, findByHash, hashStep}
+use Rattle.hashes.specs.Answers.{hashOutcome, hashStepOf}
+use Rattle.hashes.specs.Demand3.{hashAnswers, hashNames}
+use Rattle.hashes.proofs.ListLaws.{past-other, false-true, filter-step, filter-none, filter-later, member-filter, filter-member, member-numbers, no-members}
+use Rattle.hashes.proofs.TableLaws.{bucket-below, bucket-itself, storing-step, of-run, hashes-inside}
+use Rattle.hashes.proofs.LookupLaws.{started, find-fits, find-answered, hash-answered, hash-lookups, hashes-have-end, steps-follow}
+use Rattle.tables.specs.declared.TableCheck.{TableCheck}
+use Rattle.tables.specs.Check.{Checked, no-table, complete, incomplete, checkOutcome, beyond, anyBeyond, isMissed, missedNames, verdict, tableCheck}
+use Rattle.tables.specs.Demand3.{ListsAll, CompleteExactly}
+
+-- Where all names that store the hash belong to the run from a number on, the run's names that store it are all names from there on that do.
+module _ (i : NameIndex) (hashOf : ℕ → ℕ) (bucket hash : ℕ) where
+  abbrev Together : ℕ → Type 0
+  Together from = (m : ℕ) → from ≤ m → m < i .«name_count» → eqb (hashOf m) hash ≡ true → (j : ℕ) → from ≤ j → j ≤ m → bucketOf i (hashOf j) ≡ bucket
+
+  -- one name more
+  storing-decided : (from : ℕ) → Together from
+      → (from < i .«name_count» → storing hashOf hash (runFrom i hashOf bucket (from + 1)) ≡ storing hashOf hash (namesFrom i (from + 1)))
+      → storing hashOf hash (runFrom i hashOf bucket from) ≡ storing hashOf hash (namesFrom i from)
+  unfolding storing namesFrom
+  storing-decided from all more =
+      rw (storing-step i hashOf bucket hash from, filter-step (λ n. eqb (hashOf n) hash) (i .«name_count») from)
+      (tested (leb (i .«name_count») from) (eqb (bucketOf i (hashOf from)) bucket) (ltb from (i .«name_count»)) (eqb (hashOf from) hash) refl refl refl refl)
+    where
+      left : List ℕ
+      left = storing hashOf hash (runFrom i hashOf bucket (from + 1))
+
+      right : List ℕ
+      right = filterb (λ n. eqb (hashOf n) hash) (numbersFrom (from + 1) (i .«name_count» - (from + 1)))
+
+      -- after a name of another bucket none stores the hash
+      never : eqb (bucketOf i (hashOf from)) bucket ≡ false → (m : ℕ) → from ≤ m → m < i .«name_count» → eqb (hashOf m) hash ≡ false
+      never other m h l = stores (eqb (hashOf m) hash) refl
+        where
+          stores : (t : Bool) → eqb (hashOf m) hash ≡ t → t ≡ false
+          stores true e = absurd (eqb-false _ _ other (all m h l e from (omega arith) h))
+          stores false e = refl
+
+      tested : (t u v w : Bool) → leb (i .«name_count») from ≡ t → eqb (bucketOf i (hashOf from)) bucket ≡ u → ltb from (i .«name_count») ≡ v → eqb (hashOf from) hash ≡ w
+          → cond t [] (cond u (cond w (from ∷ left) left) []) ≡ cond v (cond w (from ∷ right) right) []
+      tested true u true w e f g h = absurd (omega (arith, leb-true (i .«name_count») from e, ltb-true from (i .«name_count») g))
+      tested true u false w e f g h = refl
+      tested false u false w e f g h = absurd (omega (arith, leb-false (i .«name_count») from e, ltb-false from (i .«name_count») g))
+      tested false true true true e f g h = ap (λ l. from ∷ l) (more (ltb-true from (i .«name_count») g))
+      tested false true true false e f g h = more (ltb-true from (i .«name_count») g)
+      tested false false true true e f g h = absurd (false-true (sym (never f from (omega arith) (ltb-true from (i .«name_count») g)) ∙ h))
+      tested false false true false e f g h = sym (filter-none (λ n. eqb (hashOf n) hash) (from + 1) (i .«name_count» - (from + 1)) (λ m k l. never f m (omega arith) (omega arith)))
+
+  storing-within : (turns from : ℕ) → i .«name_count» - from ≤ turns → Together from → storing hashOf hash (runFrom i hashOf bucket from) ≡ storing hashOf hash (namesFrom i from)
+  storing-within zero from enough all = storing-decided from all (λ below. absurd (omega arith))
+  storing-within (suc turns) from enough all = storing-decided from all (λ below. storing-within turns (from + 1) (omega arith) (λ m h l e j k n. all m (omega arith) l e j (omega arith) n))
+
+  pub storing-run : (from : ℕ) → Together from → storing hashOf hash (runFrom i hashOf bucket from) ≡ storing hashOf hash (namesFrom i from)
+  storing-run from all = storing-within (i .«name_count») from (omega arith) all
+
+module _ (order : RunTimeEndian) (s : List ℕ) (i : NameIndex) where
+  abbrev hashOf : ℕ → ℕ
+  hashOf = storedHash order s (parts i)
+
+  -- no name is missed
+  abbrev NoneMissed : Type 0
+  NoneMissed = (name : ℕ) → name < i .«name_count» → memberb name (run order s i (bucketOf i (storedHash order s (parts i) name))) ≡ true
+
+  -- then the names of a hash are all names that store it
+  names-all : NoneMissed → (hash : ℕ) → namesOfHash order s i hash ≡ allStoring order s i hash
+  unfolding namesOfHash allStoring run fromStart storing filterb namesFrom memberb
+  names-all reached hash = tested (eqb start 0) refl in-run-of
+    where
+      bucket : ℕ
+      bucket = bucketOf i hash
+
+      start : ℕ
+      start = storedStart order s (parts i) (bucketOf i hash)
+
+      -- a name that stores the hash is in the run of the hash's bucket
+      in-run-of : (m : ℕ) → m < i .«name_count» → eqb (hashOf m) hash ≡ true → memberb m (cond (eqb start 0) [] (runFrom i hashOf bucket (start - 1))) ≡ true
+      in-run-of m l e = rw (eqb-true (storedHash order s (parts i) m) hash e) at (reached m l)
+
+      -- where a name that stores the hash would have to be somewhere that it is not
+      nowhere : (m : ℕ) → (eqb (hashOf m) hash ≡ true → ⊥) → eqb (hashOf m) hash ≡ false
+      nowhere m never = stores (eqb (hashOf m) hash) refl
+        where
+          stores : (t : Bool) → eqb (hashOf m) hash ≡ t → t ≡ false
+          stores true e = absurd (never e)
+          stores false e = refl
+
+      tested : (t : Bool) → eqb start 0 ≡ t → ((m : ℕ) → m < i .«name_count» → eqb (hashOf m) hash ≡ true → memberb m (cond t [] (runFrom i hashOf bucket (start - 1))) ≡ true)
+          → storing hashOf hash (cond t [] (runFrom i hashOf bucket (start - 1))) ≡ storing hashOf hash (namesFrom i 0)
+      tested true e within = sym (filter-none (λ n. eqb (hashOf n) hash) 0 (i .«name_count» - 0) (λ m h l. nowhere m (λ f. false-true (within m (omega arith) f))))
+      tested false e within =
+          let same : 0 + (start - 1) ≡ start - 1 = omega arith in
+          storing-run i hashOf bucket hash (start - 1) (λ m h l f j k n. let (above, below, all) = of-run i hashOf bucket m (start - 1) (within m l f) in all j k n)
+          ∙ sym (rw same at (filter-later (λ n. eqb (hashOf n) hash) (i .«name_count») 0 (start - 1) (λ m h l g. nowhere m (λ f. let (above, below, all) = of-run i hashOf bucket m (start - 1) (within m g f) in omega arith))))
+
+  -- what the two tests of the check say
+  starts-inside : anyBeyond (i .«name_count») (storedStart order s (parts i)) (i .«bucket_count») ≡ false → (bucket : ℕ) → bucket < i .«bucket_count» → storedStart order s (parts i) bucket ≤ i .«name_count» + 1
+  unfolding anyBeyond beyond
+  starts-inside none-beyond bucket below = ltb-false (i .«name_count» + 1) (storedStart order s (parts i) bucket) (at-bucket (ltb (i .«name_count» + 1) (storedStart order s (parts i) bucket)) refl)
+    where
+      at-bucket : (t : Bool) → ltb (i .«name_count» + 1) (storedStart order s (parts i) bucket) ≡ t → t ≡ false
+      at-bucket true e =
+          let none-there = ltb-false 0 (length (filterb (beyond (i .«name_count») (storedStart order s (parts i))) (numbersFrom 0 (i .«bucket_count»)))) none-beyond in
+          absurd (no-members bucket (filterb (beyond (i .«name_count») (storedStart order s (parts i))) (numbersFrom 0 (i .«bucket_count»))) (omega arith)
+          (filter-member (beyond (i .«name_count») (storedStart order s (parts i))) bucket (numbersFrom 0 (i .«bucket_count»)) e (member-numbers bucket 0 (i .«bucket_count») (omega arith) (omega arith))))
+      at-bucket false e = refl
+
+  none-missed : length (missedNames order s i) ≡ 0 → NoneMissed
+  unfolding missedNames isMissed namesFrom
+  none-missed nothing name below = reached (memberb name (run order s i (bucketOf i (storedHash order s (parts i) name)))) refl
+    where
+      reached : (t : Bool) → memberb name (run order s i (bucketOf i (storedHash order s (parts i) name))) ≡ t → t ≡ true
+      reached true e = refl
+      reached false e =
+          absurd (no-members name (filterb (isMissed order s i) (numbersFrom 0 (i .«name_count» - 0))) nothing
+          (filter-member (isMissed order s i) name (numbersFrom 0 (i .«name_count» - 0)) (ap not e) (member-numbers name 0 (i .«name_count» - 0) (omega arith) (omega arith))))
+
+  -- what the check says where it says complete
+  check-complete : tableCheck order s i ≡ answered complete
+      → (length s ≤ longest) × Fits s i × (0 < i .«bucket_count») × (anyBeyond (i .«name_count») (storedStart order s (parts i)) (i .«bucket_count») ≡ false) × (length (missedNames order s i) ≡ 0)
+  unfolding tableCheck verdict
+  check-complete e =
+      let (p, given, rest) = bind-answered (fitted s i) _ complete e in
+      let (short, fits, same) = fitted-answered s i p given in
+      ⊎-elim
+      (λ (here, other). absurd (tables-differ (same-answer other)))
+      (λ (here, more).
+      let (u, inside, said) = then-answered (refuseIf (anyBeyond (i .«name_count») (storedStart order s p) (i .«bucket_count»)) 1 (p .«hash_table_data»)) _ complete more in (
+        short,
+        fits,
+        past-other (i .«bucket_count») 0 (omega arith) (eqb-false (i .«bucket_count») 0 here),
+        rw same at (passed (anyBeyond (i .«name_count») (storedStart order s p) (i .«bucket_count»)) 1 (p .«hash_table_data») u inside),
+        no-verdict (length (missedNames order s i)) (eqb (length (missedNames order s i)) 0) refl (same-answer said),
+      ))
+      (cond-is (eqb (i .«bucket_count») 0) _ _ (answered complete) rest)
+    where
+      tables-differ : no-table ≡ complete → ⊥
+      tables-differ e = let z : _≡_ {A = ℕ} 0 1 = cc in omega arith
+
+      complete-differs : {n : ℕ} → incomplete n ≡ complete → ⊥
+      complete-differs e = let z : _≡_ {A = ℕ} 0 1 = cc in omega arith
+
+      no-verdict : (n : ℕ) (t : Bool) → eqb n 0 ≡ t → cond t complete (incomplete n) ≡ complete → n ≡ 0
+      no-verdict n true e h = eqb-true n 0 e
+      no-verdict n false e h = absurd (complete-differs h)
+
+  -- what linked steps list up to the first end
+  abbrev given-by : NameHashIter → ℕ → Type 0
+  given-by c hash = hashOutcome (HashRead.Value c) ≡ findByHash order s i hash
+
+  steps-name : (hash : ℕ) (c : NameHashIter) (steps : List NameHashStep) → given-by c hash → Linked hashStepOf (hashStep order s i) c steps → hasEnd (hashAnswers steps) ≡ true
+      → upToEnd (hashAnswers steps) ≡ hashNames (namesOfHash order s i hash)
+  steps-name hash c steps given linked ended =
+      let (same, end) = hash-lookups order s i hash c steps given linked in
+      let more = ltb-true (length (hashNames (namesOfHash order s i hash))) (length (hashAnswers steps)) (sym end ∙ ended) in
+      same ∙ take-all (length (hashAnswers steps)) (hashNames (namesOfHash order s i hash)) (omega arith)
+
+  -- a complete table lists all names of each hash
+  complete-lists : tableCheck order s i ≡ answered complete → (hash : ℕ) → ListsAll order s i hash
+  unfolding findByHash
+  complete-lists e hash =
+      let (short, fits, buckets, none-beyond, nothing) = check-complete e in
+      let below = bucket-below i hash buckets in
+      let inside = starts-inside none-beyond (bucketOf i hash) below in
+      let c : NameHashIter = record { «bucket_iter» = started (bucketOf i hash) (storedStart order s (parts i) (bucketOf i hash)); hash = hash } in
+      let given : given-by c hash = rw (find-fits order s i (bucketOf i hash) short fits below, le-ltb (i .«name_count» + 1) (storedStart order s (parts i) (bucketOf i hash)) inside) in
+      let (steps, count, linked) = steps-follow order s i hash c (i .«name_count» + 1) given in
+      let all = names-all (none-missed nothing) hash in
+      (c, given, (steps, linked, hashes-have-end order s i hash c steps given linked (omega arith)), λ steps linked ended. steps-name hash c steps given linked ended ∙ ap hashNames all)
+
+  -- and where each hash lists all its names, no test of the check fails
+  lists-inside : (hash : ℕ) → ListsAll order s i hash
+      → (length s ≤ longest) × Fits s i × (bucketOf i hash < i .«bucket_count») × (storedStart order s (parts i) (bucketOf i hash) ≤ i .«name_count» + 1)
+  lists-inside hash (c, given, reaches, lists) =
+      let (found, same) = hash-answered order s i hash c (sym given) in
+      let (short, fits, below, inside, is) = find-answered order s i (bucketOf i hash) (c .«bucket_iter») found in
+      (short, fits, below, inside)
+
+  -- the names back from the answers
+  shown : Outcome (Option NameTableIndex) → ℕ
+  shown (answered (some name)) = name .0
+  shown (answered none) = 0
+  shown (refused n v) = 0
+
+  names-back : (names : List ℕ) → map shown (hashNames names) ≡ names
+  unfolding hashNames shown
+  names-back [] = refl
+  names-back (name ∷ names) = ap (λ l. name ∷ l) (names-back names)
+
+  lists-reach : (name : ℕ) → name < i .«name_count» → ListsAll order s i (storedHash order s (parts i) name) → memberb name (run order s i (bucketOf i (storedHash order s (parts i) name))) ≡ true
+  unfolding allStoring namesOfHash storing namesFrom
+  lists-reach name below (c, given, (steps, linked, ended), lists) =
+      let both : hashNames (namesOfHash order s i hash) ≡ hashNames (allStoring order s i hash) = sym (steps-name hash c steps given linked ended) ∙ lists steps linked ended in
+      let same : namesOfHash order s i hash ≡ allStoring order s i hash = sym (names-back (namesOfHash order s i hash)) ∙ ap (map shown) both ∙ names-back (allStoring order s i hash) in
+      let there : memberb name (allStoring order s i hash) ≡ true
+      = filter-member (λ n. eqb (hashOf n) hash) name (numbersFrom 0 (i .«name_count» - 0)) (eq-eqb hash hash refl) (member-numbers name 0 (i .«name_count» - 0) (omega arith) (omega arith)) in
+      member-filter (λ n. eqb (hashOf n) hash) name (run order s i (bucketOf i hash)) (rw (sym same) at there)
+    where
+      hash : ℕ
+      hash = storedHash order s (parts i) name
+
+  -- a stored hash has 32 bits
+  hash-below : Bytes s → Fits s i → 0 < i .«bucket_count» → (name : ℕ) → name < i .«name_count» → storedHash order s (parts i) name < 2 ^ 32
+  unfolding storedHash nthOf
+  hash-below bytes fits buckets name below =
+      let inside = hashes-inside s i fits buckets in
+      read-below 4 order s (parts i .«hash_table_data» + 4 * name) (length s) _ bytes (number-read 4 order s (parts i .«hash_table_data» + 4 * name) (length s) (omega arith))
+
+  module _ (bytes : Bytes s) (small : i .«bucket_count» < 2 ^ 32) (all : (hash : ℕ) → hash < 2 ^ 32 → ListsAll order s i hash) where
+    none-beyond : anyBeyond (i .«name_count») (storedStart order s (parts i)) (i .«bucket_count») ≡ false
+    unfolding anyBeyond beyond
+    none-beyond = rw (filter-none (beyond (i .«name_count») (storedStart order s (parts i))) 0 (i .«bucket_count») inside)
+      where
+        inside : (bucket : ℕ) → 0 ≤ bucket → bucket < 0 + i .«bucket_count» → ltb (i .«name_count» + 1) (storedStart order s (parts i) bucket) ≡ false
+        inside bucket h l =
+            let below : bucket < i .«bucket_count» = omega arith in
+            let (short, fits, there, most) = lists-inside bucket (all bucket (omega arith)) in
+            le-ltb (i .«name_count» + 1) (storedStart order s (parts i) bucket) (rw (bucket-itself i bucket below) at most)
+
+    nothing : Fits s i → 0 < i .«bucket_count» → length (missedNames order s i) ≡ 0
+    unfolding missedNames isMissed namesFrom
+    nothing fits buckets =
+        rw (filter-none (isMissed order s i) 0 (i .«name_count» - 0)
+        (λ name h l. let below : name < i .«name_count» = omega arith in
+        ap not (lists-reach name below (all (storedHash order s (parts i) name) (hash-below bytes fits buckets name below)))))
+
+    lists-complete : tableCheck order s i ≡ answered complete
+    unfolding tableCheck verdict
+    lists-complete =
+        let (short, fits, below, inside) = lists-inside 0 (all 0 (omega arith)) in
+        let buckets : 0 < i .«bucket_count» = omega arith in
+        rw (fitted-fits s i short fits, ne-eqb (i .«bucket_count») 0 (λ e. omega (arith, e)), none-beyond, nothing fits buckets)
+
+pub complete-exactly : CompleteExactly
+complete-exactly order s i bytes small = (λ e hash below. complete-lists order s i (sym e) hash, λ all. sym (lists-complete order s i bytes small all))
