@@ -3,7 +3,7 @@ use mathlib.Core.Path.{refl}
 use native.Mathlib.Omega.{arith}
 use Rattle.reader.specs.Errors.{longest}
 use Rattle.reader.specs.Parts.{skipped, cut}
-use Rattle.reader.specs.Numbers.{digits, spelled, readNumber, readByte, initialLength}
+use Rattle.reader.specs.Numbers.{digits, spelled, no-bytes, byte-then, numberAt, readNumber, readByte, initialLength}
 use Rattle.reader.specs.Leb128.{leb128, numberOfBytes, numberBytes, someBeyond, beyond, complete, base128}
 use Rattle.reader.specs.Strings.{beforeZero, zeroFrom, getStr, textBytes}
 use Rattle.reader.specs.Listing.{listing, answersOf}
@@ -21,7 +21,10 @@ use Rattle.attributes.specs.Meaning.{dieOffset, dieOffsetIn, parentOf, parentIn
 use Rattle.entries.specs.Entries.{entry, nameEntry}
 use Rattle.entries.specs.Series.{seriesStart, seriesEntry, entriesFrom, series, nameEntries, moved, entryStep}
 use Rattle.entries.specs.Facts.{entryDieOffset, entryParent}
-use Rattle.p_cases.specs.CaseA.{caseA, stringsA, headerA, indexA, partsA, HeaderOfA, OpensA, PartsOfA, FitsA, UnitsOfA, StringsOfA, BytesOfA, AbbreviationsOfA, CursorsOfA, SeriesOfA, StepsOfA, FactsOfA}
+use Rattle.hashes.specs.Lists.{numbersFrom, filterb, takeWhile}
+use Rattle.hashes.specs.Table.{nthOf, storedStart, storedHash, bucketOf, namesFrom, runFrom, examinedFrom, fromStart, run, examined, storing}
+use Rattle.hashes.specs.Lookups.{findByBucket, findByHash, firstOr, nextInBucket, nextStoring, bucketStep, hashStep}
+use Rattle.p_cases.specs.CaseA.{caseA, stringsA, headerA, indexA, partsA, HeaderOfA, OpensA, PartsOfA, FitsA, UnitsOfA, StringsOfA, BytesOfA, AbbreviationsOfA, CursorsOfA, SeriesOfA, StepsOfA, FactsOfA, BucketsOfA, RunsOfA, BucketStepsOfA, HashOfA, HashStepsOfA, LentA}
 
 pub header-of-a : HeaderOfA
 unfolding caseA headerA header headerCut headerBody counts augmentation initialLength readNumber skipped cut spelled digits
@@ -70,3 +73,27 @@ steps-of-a = step-then refl (step-then refl (step-then refl no-steps))
 pub facts-of-a : FactsOfA
 unfolding caseA indexA entryDieOffset entryParent dieOffset dieOffsetIn parentOf parentIn entry nameEntry values kept noAttribute first formValue asFlag asUnsigned asOffset readByte find table listing declaration withAttributes head attributes attributesIn pair leb128 numberOfBytes numberBytes someBeyond beyond complete base128 fitted parts place placesFrom sizes wordBytes hashBytes longest readNumber skipped spelled digits
 facts-of-a = (refl, refl)
+
+pub buckets-of-a : BucketsOfA
+unfolding caseA indexA findByBucket fitted parts place placesFrom sizes wordBytes hashBytes longest readNumber skipped spelled digits
+buckets-of-a = refl
+
+pub runs-of-a : RunsOfA
+unfolding caseA indexA run examined nthOf storedStart storedHash bucketOf namesFrom runFrom examinedFrom fromStart numbersFrom takeWhile numberAt spelled digits fitted parts place placesFrom sizes wordBytes hashBytes longest
+runs-of-a = refl
+
+pub bucket-steps-of-a : BucketStepsOfA
+unfolding caseA indexA bucketStep nextInBucket firstOr nthOf storedStart storedHash bucketOf namesFrom runFrom examinedFrom fromStart numbersFrom takeWhile numberAt spelled digits fitted parts place placesFrom sizes wordBytes hashBytes longest
+bucket-steps-of-a = step-then refl (step-then refl (step-then refl (step-then refl no-steps)))
+
+pub hash-of-a : HashOfA
+unfolding caseA indexA findByHash findByBucket bucketOf fitted parts place placesFrom sizes wordBytes hashBytes longest readNumber skipped spelled digits
+hash-of-a = refl
+
+pub hash-steps-of-a : HashStepsOfA
+unfolding caseA indexA hashStep nextStoring storing filterb firstOr nthOf storedStart storedHash bucketOf namesFrom runFrom examinedFrom fromStart numbersFrom takeWhile numberAt spelled digits fitted parts place placesFrom sizes wordBytes hashBytes longest
+hash-steps-of-a = step-then refl (step-then refl (step-then refl no-steps))
+
+pub lent-a : LentA
+unfolding caseA indexA
+lent-a = (search (byte-then, no-bytes, arith), omega arith)

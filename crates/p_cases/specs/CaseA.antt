@@ -1,10 +1,11 @@
--- Document 01's case A: its bytes, what the definitions say of its header, its parts, its units, its names, its abbreviations and its
--- entries, that it fits, and that `name_entries` gives a cursor, so that the theorems which suppose this speak of a real index.
-use Prim.Native.Nat.{ℕ, _≤_}
+-- Document 01's case A: its bytes, what the definitions say of its header, its parts, its units, its names, its abbreviations, its
+-- entries and its hash table, that it fits, and that `name_entries`, `find_by_bucket` and `find_by_hash` give cursors with linked steps, so
+-- that the theorems which suppose this speak of a real index.
+use Prim.Native.Nat.{ℕ, _^_, _≤_, _<_}
 use mathlib.Core.Path.{_≡_}
-use mathlib.Core.List.{List, [], _∷_}
+use mathlib.Core.List.{List, [], _∷_, _++_}
 use mathlib.Core.Option.{Option, some}
-use lib.ListN.{length}
+use lib.ListN.{length, take, drop}
 use Rattle.reader.specs.Outcome.{Outcome, answered, refused}
 use Rattle.reader.specs.Errors.{longest}
 use Rattle.reader.specs.Strings.{Text}
@@ -33,6 +34,15 @@ use Rattle.entries.specs.Answers.{entriesOutcome, entryStepOf}
 use Rattle.entries.specs.Entries.{handed}
 use Rattle.entries.specs.Series.{series, nameEntries, entryStep}
 use Rattle.entries.specs.Facts.{entryDieOffset, entryParent}
+use Rattle.reader.specs.Numbers.{Bytes}
+use Rattle.hashes.specs.declared.bucket.BucketIter.{BucketIter}
+use Rattle.hashes.specs.declared.bucket.BucketRead.{BucketRead}
+use Rattle.hashes.specs.declared.bucket.NameBucketStep.{NameBucketStep}
+use Rattle.hashes.specs.declared.hash.HashRead.{HashRead}
+use Rattle.hashes.specs.declared.hash.NameHashStep.{NameHashStep}
+use Rattle.hashes.specs.Table.{run, examined}
+use Rattle.hashes.specs.Lookups.{bucketCursor, hashCursor, findByBucket, findByHash, bucketStep, hashStep}
+use Rattle.hashes.specs.Answers.{bucketOutcome, bucketStepOf, hashOutcome, hashStepOf}
 
 -- the bytes, a line for each sentence of document 01: the length; the version and its padding; C; L; F; B; N; A; the augmentation;
 -- the unit; the starts; the hashes; the strings; the entry offsets; the abbreviations; the pool
@@ -55,6 +65,10 @@ caseA =
     ∷ 0x01 ∷ 0x2e ∷ 0x03 ∷ 0x13 ∷ 0 ∷ 0 ∷ 0
     ∷ 0x01 ∷ 0x10 ∷ 0 ∷ 0 ∷ 0 ∷ 0 ∷ 0x01 ∷ 0x20 ∷ 0 ∷ 0 ∷ 0 ∷ 0 ∷ 0x01 ∷ 0x30 ∷ 0 ∷ 0 ∷ 0 ∷ 0
     ∷ []
+
+-- the same with another second start, the number of four bytes at 44
+unfoldable pub secondStart : ℕ → List ℕ
+secondStart start = take 44 caseA ++ (start ∷ drop 45 caseA)
 
 -- its .debug_str
 unfoldable pub stringsA : List ℕ
@@ -182,3 +196,45 @@ abbrev pub FactsOfA : Type 0
 FactsOfA =
     (entryDieOffset RunTimeEndian.Little caseA indexA (record { 0 = 6 }) ≡ answered (DieOffset.Some (record { 0 = 0x20 })))
     × (entryParent RunTimeEndian.Little caseA indexA (record { 0 = 6 }) ≡ answered EntryParent.NotKnown)
+
+-- its buckets: 0 has the run 0, 1 has the run 1, 2, and there is no other; the name after the run of 0 is examined, too
+abbrev pub bucketOfA : ℕ → Outcome BucketIter
+bucketOfA bucket = findByBucket RunTimeEndian.Little caseA indexA bucket
+
+abbrev pub beforeName : ℕ → ℕ → Outcome BucketIter
+beforeName bucket name = bucketOutcome (BucketRead.Value (BucketIter.Some (bucketCursor bucket name)))
+
+abbrev pub BucketsOfA : Type 0
+BucketsOfA = bucketOfA 0 ∷ bucketOfA 1 ∷ bucketOfA 2 ∷ bucketOfA 3 ∷ [] ≡ beforeName 0 0 ∷ beforeName 1 1 ∷ refused 1 48 ∷ refused 1 40 ∷ []
+
+abbrev pub RunsOfA : Type 0
+RunsOfA =
+    run RunTimeEndian.Little caseA indexA 0 ∷ examined RunTimeEndian.Little caseA indexA 0 ∷ run RunTimeEndian.Little caseA indexA 1 ∷ examined RunTimeEndian.Little caseA indexA 1 ∷ []
+    ≡ (0 ∷ []) ∷ (0 ∷ 1 ∷ []) ∷ (1 ∷ 2 ∷ []) ∷ (1 ∷ 2 ∷ []) ∷ []
+
+-- answers of the steps that are linked from the cursor of bucket 0 on: name 0 with its hash, the end at name 1, which is of another bucket,
+-- the end at name 2, where a step after an end goes on, and then the end at the number of names, again and again
+abbrev pub bucketStepsOfA : List NameBucketStep
+bucketStepsOfA =
+    NameBucketStep.Name (record { name = record { 0 = 0 }; hash = 4 }) (bucketCursor 0 1)
+    ∷ NameBucketStep.End (bucketCursor 0 2)
+    ∷ NameBucketStep.End (bucketCursor 0 3)
+    ∷ NameBucketStep.End (bucketCursor 0 3)
+    ∷ []
+
+abbrev pub BucketStepsOfA : Type 0
+BucketStepsOfA = Linked bucketStepOf (bucketStep RunTimeEndian.Little caseA indexA) (bucketCursor 0 0) bucketStepsOfA
+
+-- hash 9 has the cursor of its bucket, and its steps pass over name 1, which stores 7
+abbrev pub HashOfA : Type 0
+HashOfA = hashOutcome (HashRead.Value (hashCursor 1 9 1)) ≡ findByHash RunTimeEndian.Little caseA indexA 9
+
+abbrev pub hashStepsOfA : List NameHashStep
+hashStepsOfA = NameHashStep.Name (record { 0 = 2 }) (hashCursor 1 9 3) ∷ NameHashStep.End (hashCursor 1 9 3) ∷ NameHashStep.End (hashCursor 1 9 3) ∷ []
+
+abbrev pub HashStepsOfA : Type 0
+HashStepsOfA = Linked hashStepOf (hashStep RunTimeEndian.Little caseA indexA) (hashCursor 1 9 1) hashStepsOfA
+
+-- what `CompleteExactly` supposes of any section and index that is lent
+abbrev pub LentA : Type 0
+LentA = Bytes caseA × (indexA .«bucket_count» < 2 ^ 32)

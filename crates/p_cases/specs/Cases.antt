@@ -10,12 +10,16 @@ use Rattle.reader.specs.Leb128.{leb128, unsignedLimit, u16Limit}
 use Rattle.reader.specs.declared.endianity.RunTimeEndian.{RunTimeEndian}
 use Rattle.entries.specs.declared.entry.NameEntry.{NameEntry}
 use Rattle.entries.specs.Entries.{nameEntryHanded}
-use Rattle.p_cases.specs.CaseA.{caseA, indexA}
+use Rattle.hashes.specs.Table.{namesOfHash}
+use Rattle.tables.specs.Check.{Checked, complete, incomplete, tableCheck}
+use Rattle.p_cases.specs.CaseA.{caseA, indexA, secondStart}
 
 -- what a case asks for
 pub data Answer : Type 0 where
   number : Outcome Read → Answer
   entry : Outcome NameEntry → Answer
+  names : List ℕ → Answer
+  check : Outcome Checked → Answer
 
 -- `leb128::read::unsigned` and `leb128::read::u16` at the start of these bytes
 abbrev unsigned : List ℕ → Answer
@@ -28,6 +32,14 @@ u16 s = number (leb128 u16Limit s 0 (length s))
 abbrev entryOfA : ℕ → Answer
 entryOfA offset = entry (nameEntryHanded RunTimeEndian.Little caseA indexA (record { 0 = offset }))
 
+-- what a hash lists in case A
+abbrev hashOfA : ℕ → Answer
+hashOfA hash = names (namesOfHash RunTimeEndian.Little caseA indexA hash)
+
+-- the table check of case A, and of case A with another second start
+abbrev checkOfA : List ℕ → Answer
+checkOfA s = check (tableCheck RunTimeEndian.Little s indexA)
+
 abbrev pub given : List Answer
 given =
     unsigned (replicate 9 0xff ++ 0x01 ∷ [])
@@ -37,10 +49,17 @@ given =
     ∷ entryOfA 5
     ∷ entryOfA 18
     ∷ entryOfA 19
+    ∷ hashOfA 4
+    ∷ hashOfA 9
+    ∷ hashOfA 6
+    ∷ checkOfA caseA
+    ∷ checkOfA (secondStart 3)
+    ∷ checkOfA (secondStart 4)
+    ∷ checkOfA (secondStart 5)
     ∷ []
 
 -- nine ff then 01 is 2^64-1, then 02 is 7; as u16, ff ff 03 is 65535, ff ff 04 is 7; entry 5 is 10; entry 18 is 1 at 109; entry 19
--- is 1 at 91
+-- is 1 at 91; hash 4 lists 0; 9 lists 2; 6 lists none; missed is 0 (complete); second start 3 makes it 1, 4 makes it 2, 5 refuses 1 at 48
 abbrev pub expected : List Answer
 expected =
     number (answered (record { value = 18446744073709551615; next = 10 }))
@@ -50,6 +69,13 @@ expected =
     ∷ entry (refused 10 5)
     ∷ entry (refused 1 109)
     ∷ entry (refused 1 91)
+    ∷ names (0 ∷ [])
+    ∷ names (2 ∷ [])
+    ∷ names []
+    ∷ check (answered complete)
+    ∷ check (answered (incomplete 1))
+    ∷ check (answered (incomplete 2))
+    ∷ check (refused 1 48)
     ∷ []
 
 -- the theorem

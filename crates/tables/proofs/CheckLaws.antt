@@ -20,23 +20,23 @@ use Rattle.hashes.proofs.TableLaws.{buckets-end, hashes-end, strings-inside, bu
 use Rattle.tables.specs.declared.Segment.{Segment}
 use Rattle.tables.specs.Segments.{followed, missesAt}
 use Rattle.tables.proofs.SegmentLaws.{Before, before-first, before-next, followed-bucket, misses-member}
-use Rattle.tables.specs.Check.{beyond, anyBeyond, isMissed, missedNames}
+use Rattle.tables.specs.Check.{startAbove, anyAbove, isMissed, missedNames}
 
--- whether a bucket from a number on has a start that is beyond
-unfoldable pub beyondFrom : ℕ → (ℕ → ℕ) → ℕ → ℕ → Bool
-beyondFrom names startOf buckets bucket = ltb 0 (length (filterb (beyond names startOf) (numbersFrom bucket (buckets - bucket))))
+-- whether a bucket from a number on has a start above N + 1
+unfoldable pub aboveFrom : ℕ → (ℕ → ℕ) → ℕ → ℕ → Bool
+aboveFrom names startOf buckets bucket = ltb 0 (length (filterb (startAbove names startOf) (numbersFrom bucket (buckets - bucket))))
 
-pub beyond-first : (names : ℕ) (startOf : ℕ → ℕ) (buckets : ℕ) → anyBeyond names startOf buckets ≡ beyondFrom names startOf buckets 0
-unfolding anyBeyond beyondFrom
-beyond-first names startOf buckets = let all : buckets - 0 ≡ buckets = omega arith in rw all
+pub above-first : (names : ℕ) (startOf : ℕ → ℕ) (buckets : ℕ) → anyAbove names startOf buckets ≡ aboveFrom names startOf buckets 0
+unfolding anyAbove aboveFrom
+above-first names startOf buckets = let all : buckets - 0 ≡ buckets = omega arith in rw all
 
-pub beyond-step : (names : ℕ) (startOf : ℕ → ℕ) (buckets bucket : ℕ)
-    → beyondFrom names startOf buckets bucket ≡ cond (ltb bucket buckets) (cond (ltb (names + 1) (startOf bucket)) true (beyondFrom names startOf buckets (bucket + 1))) false
-unfolding beyondFrom beyond
-beyond-step names startOf buckets bucket = rw (filter-step (beyond names startOf) buckets bucket) (tested (ltb bucket buckets) (ltb (names + 1) (startOf bucket)))
+pub above-step : (names : ℕ) (startOf : ℕ → ℕ) (buckets bucket : ℕ)
+    → aboveFrom names startOf buckets bucket ≡ cond (ltb bucket buckets) (cond (ltb (names + 1) (startOf bucket)) true (aboveFrom names startOf buckets (bucket + 1))) false
+unfolding aboveFrom startAbove
+above-step names startOf buckets bucket = rw (filter-step (startAbove names startOf) buckets bucket) (tested (ltb bucket buckets) (ltb (names + 1) (startOf bucket)))
   where
     after : List ℕ
-    after = filterb (beyond names startOf) (numbersFrom (bucket + 1) (buckets - (bucket + 1)))
+    after = filterb (startAbove names startOf) (numbersFrom (bucket + 1) (buckets - (bucket + 1)))
 
     tested : (t u : Bool) → ltb 0 (length (cond t (cond u (bucket ∷ after) after) [])) ≡ cond t (cond u true (ltb 0 (length after))) false
     tested true true = lt-ltb 0 (suc (length after)) (omega arith)

@@ -36,7 +36,7 @@ use Rattle.hashes.proofs.ListLaws.{past-other, false-true, filter-step, filter-
 use Rattle.hashes.proofs.TableLaws.{bucket-below, bucket-itself, storing-step, of-run, hashes-inside}
 use Rattle.hashes.proofs.LookupLaws.{started, find-fits, find-answered, hash-answered, hash-lookups, hashes-have-end, steps-follow}
 use Rattle.tables.specs.declared.TableCheck.{TableCheck}
-use Rattle.tables.specs.Check.{Checked, no-table, complete, incomplete, checkOutcome, beyond, anyBeyond, isMissed, missedNames, verdict, tableCheck}
+use Rattle.tables.specs.Check.{Checked, no-table, complete, incomplete, checkOutcome, startAbove, anyAbove, isMissed, missedNames, verdict, tableCheck}
 use Rattle.tables.specs.Demand3.{ListsAll, CompleteExactly}
 
 -- Where all names that store the hash belong to the run from a number on, the run's names that store it are all names from there on that do.
@@ -124,15 +124,15 @@ module _ (order : RunTimeEndian) (s : List ℕ) (i : NameIndex) where
           ∙ sym (rw same at (filter-later (λ n. eqb (hashOf n) hash) (i .«name_count») 0 (start - 1) (λ m h l g. nowhere m (λ f. let (above, below, all) = of-run i hashOf bucket m (start - 1) (within m g f) in omega arith))))
 
   -- what the two tests of the check say
-  starts-inside : anyBeyond (i .«name_count») (storedStart order s (parts i)) (i .«bucket_count») ≡ false → (bucket : ℕ) → bucket < i .«bucket_count» → storedStart order s (parts i) bucket ≤ i .«name_count» + 1
-  unfolding anyBeyond beyond
-  starts-inside none-beyond bucket below = ltb-false (i .«name_count» + 1) (storedStart order s (parts i) bucket) (at-bucket (ltb (i .«name_count» + 1) (storedStart order s (parts i) bucket)) refl)
+  starts-inside : anyAbove (i .«name_count») (storedStart order s (parts i)) (i .«bucket_count») ≡ false → (bucket : ℕ) → bucket < i .«bucket_count» → storedStart order s (parts i) bucket ≤ i .«name_count» + 1
+  unfolding anyAbove startAbove
+  starts-inside none-above bucket below = ltb-false (i .«name_count» + 1) (storedStart order s (parts i) bucket) (at-bucket (ltb (i .«name_count» + 1) (storedStart order s (parts i) bucket)) refl)
     where
       at-bucket : (t : Bool) → ltb (i .«name_count» + 1) (storedStart order s (parts i) bucket) ≡ t → t ≡ false
       at-bucket true e =
-          let none-there = ltb-false 0 (length (filterb (beyond (i .«name_count») (storedStart order s (parts i))) (numbersFrom 0 (i .«bucket_count»)))) none-beyond in
-          absurd (no-members bucket (filterb (beyond (i .«name_count») (storedStart order s (parts i))) (numbersFrom 0 (i .«bucket_count»))) (omega arith)
-          (filter-member (beyond (i .«name_count») (storedStart order s (parts i))) bucket (numbersFrom 0 (i .«bucket_count»)) e (member-numbers bucket 0 (i .«bucket_count») (omega arith) (omega arith))))
+          let none-there = ltb-false 0 (length (filterb (startAbove (i .«name_count») (storedStart order s (parts i))) (numbersFrom 0 (i .«bucket_count»)))) none-above in
+          absurd (no-members bucket (filterb (startAbove (i .«name_count») (storedStart order s (parts i))) (numbersFrom 0 (i .«bucket_count»))) (omega arith)
+          (filter-member (startAbove (i .«name_count») (storedStart order s (parts i))) bucket (numbersFrom 0 (i .«bucket_count»)) e (member-numbers bucket 0 (i .«bucket_count») (omega arith) (omega arith))))
       at-bucket false e = refl
 
   none-missed : length (missedNames order s i) ≡ 0 → NoneMissed
@@ -147,7 +147,7 @@ module _ (order : RunTimeEndian) (s : List ℕ) (i : NameIndex) where
 
   -- what the check says where it says complete
   check-complete : tableCheck order s i ≡ answered complete
-      → (length s ≤ longest) × Fits s i × (0 < i .«bucket_count») × (anyBeyond (i .«name_count») (storedStart order s (parts i)) (i .«bucket_count») ≡ false) × (length (missedNames order s i) ≡ 0)
+      → (length s ≤ longest) × Fits s i × (0 < i .«bucket_count») × (anyAbove (i .«name_count») (storedStart order s (parts i)) (i .«bucket_count») ≡ false) × (length (missedNames order s i) ≡ 0)
   unfolding tableCheck verdict
   check-complete e =
       let (p, given, rest) = bind-answered (fitted s i) _ complete e in
@@ -155,11 +155,11 @@ module _ (order : RunTimeEndian) (s : List ℕ) (i : NameIndex) where
       ⊎-elim
       (λ (here, other). absurd (tables-differ (same-answer other)))
       (λ (here, more).
-      let (u, inside, said) = then-answered (refuseIf (anyBeyond (i .«name_count») (storedStart order s p) (i .«bucket_count»)) 1 (p .«hash_table_data»)) _ complete more in (
+      let (u, inside, said) = then-answered (refuseIf (anyAbove (i .«name_count») (storedStart order s p) (i .«bucket_count»)) 1 (p .«hash_table_data»)) _ complete more in (
         short,
         fits,
         past-other (i .«bucket_count») 0 (omega arith) (eqb-false (i .«bucket_count») 0 here),
-        rw same at (passed (anyBeyond (i .«name_count») (storedStart order s p) (i .«bucket_count»)) 1 (p .«hash_table_data») u inside),
+        rw same at (passed (anyAbove (i .«name_count») (storedStart order s p) (i .«bucket_count»)) 1 (p .«hash_table_data») u inside),
         no-verdict (length (missedNames order s i)) (eqb (length (missedNames order s i)) 0) refl (same-answer said),
       ))
       (cond-is (eqb (i .«bucket_count») 0) _ _ (answered complete) rest)
@@ -189,9 +189,9 @@ module _ (order : RunTimeEndian) (s : List ℕ) (i : NameIndex) where
   complete-lists : tableCheck order s i ≡ answered complete → (hash : ℕ) → ListsAll order s i hash
   unfolding findByHash
   complete-lists e hash =
-      let (short, fits, buckets, none-beyond, nothing) = check-complete e in
+      let (short, fits, buckets, none-above, nothing) = check-complete e in
       let below = bucket-below i hash buckets in
-      let inside = starts-inside none-beyond (bucketOf i hash) below in
+      let inside = starts-inside none-above (bucketOf i hash) below in
       let c : NameHashIter = record { «bucket_iter» = started (bucketOf i hash) (storedStart order s (parts i) (bucketOf i hash)); hash = hash } in
       let given : given-by c hash = rw (find-fits order s i (bucketOf i hash) short fits below, le-ltb (i .«name_count» + 1) (storedStart order s (parts i) (bucketOf i hash)) inside) in
       let (steps, count, linked) = steps-follow order s i hash c (i .«name_count» + 1) given in
@@ -237,9 +237,9 @@ module _ (order : RunTimeEndian) (s : List ℕ) (i : NameIndex) where
       read-below 4 order s (parts i .«hash_table_data» + 4 * name) (length s) _ bytes (number-read 4 order s (parts i .«hash_table_data» + 4 * name) (length s) (omega arith))
 
   module _ (bytes : Bytes s) (small : i .«bucket_count» < 2 ^ 32) (all : (hash : ℕ) → hash < 2 ^ 32 → ListsAll order s i hash) where
-    none-beyond : anyBeyond (i .«name_count») (storedStart order s (parts i)) (i .«bucket_count») ≡ false
-    unfolding anyBeyond beyond
-    none-beyond = rw (filter-none (beyond (i .«name_count») (storedStart order s (parts i))) 0 (i .«bucket_count») inside)
+    none-above : anyAbove (i .«name_count») (storedStart order s (parts i)) (i .«bucket_count») ≡ false
+    unfolding anyAbove startAbove
+    none-above = rw (filter-none (startAbove (i .«name_count») (storedStart order s (parts i))) 0 (i .«bucket_count») inside)
       where
         inside : (bucket : ℕ) → 0 ≤ bucket → bucket < 0 + i .«bucket_count» → ltb (i .«name_count» + 1) (storedStart order s (parts i) bucket) ≡ false
         inside bucket h l =
@@ -259,7 +259,7 @@ module _ (order : RunTimeEndian) (s : List ℕ) (i : NameIndex) where
     lists-complete =
         let (short, fits, below, inside) = lists-inside 0 (all 0 (omega arith)) in
         let buckets : 0 < i .«bucket_count» = omega arith in
-        rw (fitted-fits s i short fits, ne-eqb (i .«bucket_count») 0 (λ e. omega (arith, e)), none-beyond, nothing fits buckets)
+        rw (fitted-fits s i short fits, ne-eqb (i .«bucket_count») 0 (λ e. omega (arith, e)), none-above, nothing fits buckets)
 
 pub complete-exactly : CompleteExactly
 complete-exactly order s i bytes small = (λ e hash below. complete-lists order s i (sym e) hash, λ all. sym (lists-complete order s i bytes small all))

@@ -28,11 +28,11 @@ checkOutcome (TableCheck.Incomplete n) = answered (incomplete (n .missed))
 checkOutcome (TableCheck.Refused e) = refusal e
 
 -- whether a bucket's start is above N + 1, and whether some bucket has such a start
-unfoldable pub beyond : ℕ → (ℕ → ℕ) → ℕ → Bool
-beyond names startOf bucket = ltb (names + 1) (startOf bucket)
+unfoldable pub startAbove : ℕ → (ℕ → ℕ) → ℕ → Bool
+startAbove names startOf bucket = ltb (names + 1) (startOf bucket)
 
-unfoldable pub anyBeyond : ℕ → (ℕ → ℕ) → ℕ → Bool
-anyBeyond names startOf buckets = ltb 0 (length (filterb (beyond names startOf) (numbersFrom 0 buckets)))
+unfoldable pub anyAbove : ℕ → (ℕ → ℕ) → ℕ → Bool
+anyAbove names startOf buckets = ltb 0 (length (filterb (startAbove names startOf) (numbersFrom 0 buckets)))
 
 -- whether a name is not in the run of its own bucket
 unfoldable pub isMissed : RunTimeEndian → List ℕ → NameIndex → ℕ → Bool
@@ -52,5 +52,5 @@ tableCheck order s i = do
   cond (eqb (i .«bucket_count») 0)
       (answered no-table)
       (do
-        refuseIf (anyBeyond (i .«name_count») (storedStart order s p) (i .«bucket_count»)) 1 (p .«hash_table_data»)
+        refuseIf (anyAbove (i .«name_count») (storedStart order s p) (i .«bucket_count»)) 1 (p .«hash_table_data»)
         answered (verdict (length (missedNames order s i))))

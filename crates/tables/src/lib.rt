@@ -7,7 +7,7 @@ ghost use mathlib.Core.Path.{_≡_};
 ghost use Prim.Native.Nat.{_+_, _*_, _≤_};
 ghost use lib.ListN.{length};
 ghost use Rattle.hashes.specs.Table.{nthOf, bucketOf};
-ghost use Rattle.tables.specs.Check.{checkOutcome, anyBeyond, tableCheck};
+ghost use Rattle.tables.specs.Check.{checkOutcome, anyAbove, tableCheck};
 ghost use Rattle.tables.specs.Segments.{followed, missesAt};
 use hashes::bucket_of;
 use hashes::nth_u32;
@@ -39,10 +39,10 @@ pub struct Segment {
     pub start: u32,
 }
 
-// Whether some bucket's start is beyond the place after the last name.
-fn any_beyond(order: RunTimeEndian, section: &[u8], starts: usize, buckets: u32, names: u32) -> bool
+// Whether some bucket's start is above the number of names and one.
+fn any_above(order: RunTimeEndian, section: &[u8], starts: usize, buckets: u32, names: u32) -> bool
     requires { ⌜ starts + 4 * buckets ≤ length (now section) ⌝ }
-    ensures { λ r. ⌜ r ≡ anyBeyond names (nthOf order (now (section .entry)) starts) buckets ⌝ }
+    ensures { λ r. ⌜ r ≡ anyAbove names (nthOf order (now (section .entry)) starts) buckets ⌝ }
 {
     let last = names as usize + 1;
     let mut bucket: u32 = 0;
@@ -93,8 +93,8 @@ fn misses(segment: Segment, name: u32) -> u32
     0
 }
 
-// Whether a lookup by hash lists every name: no table, a refusal for a start that is beyond the place after the last name, complete, or
-// incomplete with the number of names that are missed.
+// Whether lookups by hash list every name: no table, a refusal for a start above the number of names and one, complete, or incomplete with
+// the number of names that are missed.
 pub fn check_table(order: RunTimeEndian, section: &[u8], index: NameIndex) -> TableCheck
     ensures { λ r. ⌜ checkOutcome r ≡ tableCheck order (now (section .entry)) index ⌝ }
 {
@@ -107,7 +107,7 @@ pub fn check_table(order: RunTimeEndian, section: &[u8], index: NameIndex) -> Ta
     if index.bucket_count == 0 {
         return TableCheck::NoTable;
     }
-    if any_beyond(order, section, starts, index.bucket_count, index.name_count) {
+    if any_above(order, section, starts, index.bucket_count, index.name_count) {
         return TableCheck::Refused(Error::UnexpectedEof(hashes));
     }
     let mut segment = Segment {

@@ -1,4 +1,4 @@
--- `tables::check_table` meets its contract: the starts are tested by `any_beyond`; then each turn counts one name by its segment (`counting-next`), and after the last name all missed ones were counted (`counting-last`).
+-- `tables::check_table` meets its contract: the starts are tested by `any_above`; then each turn counts one name by its segment (`counting-next`), and after the last name all missed ones were counted (`counting-last`).
 -- Assumes nothing.
 use Prim.Native.Nat.{_-_}
 use native.Mathlib.Omega.{arith}
@@ -15,7 +15,7 @@ use Rattle.tables.proofs.check_table.Reads as reads
 use Rattle.tables.proofs.check_table.Lts as lts
 use Rattle.hashes.proofs.nth_u32.Reads as nth-u32-reads
 use Rattle.index.proofs.fit.Reads as fit-reads
-use Rattle.tables.proofs.any_beyond.Reads as any-beyond-reads
+use Rattle.tables.proofs.any_above.Reads as any-above-reads
 use Rattle.tables.proofs.follow.Reads as follow-reads
 use Rattle.tables.proofs.misses.Reads as misses-reads
 
@@ -57,8 +57,8 @@ returns-2 c =
     )
 
 -- src/lib.rt:110:8
-any-beyond-requires : tie.Need-any-beyond-requires Inv-loop μ-loop
-any-beyond-requires c κs = starts-within _ _ _ (rw (c .before .before .before .p .given .1) at (c .before .before .before .before .before .fit .ensures))
+any-above-requires : tie.Need-any-above-requires Inv-loop μ-loop
+any-above-requires c κs = starts-within _ _ _ (rw (c .before .before .before .p .given .1) at (c .before .before .before .before .before .fit .ensures))
 
 -- src/lib.rt:111:9
 returns-3 : tie.Need-returns-3 Inv-loop μ-loop
@@ -68,7 +68,7 @@ returns-3 c =
       ← c .before .before .before .before .before .before .before .fit .ensures,
       c .before .before .before .before .before .p .given .1,
       ne-eqb _ _ (c .before .before .if1 .left),
-      ← c .before .any-beyond .ensures,
+      ← c .before .any-above .ensures,
       c .if2 .taken,
     )
 
@@ -121,7 +121,7 @@ returns-4 c =
       ← c .before .before .before .before .before .before .before .before .before .before .before .fit .ensures,
       c .before .before .before .before .before .before .before .before .before .p .given .1,
       ne-eqb _ _ (c .before .before .before .before .before .before .if1 .left),
-      ← c .before .before .before .before .before .any-beyond .ensures,
+      ← c .before .before .before .before .before .any-above .ensures,
       c .before .before .before .before .if2 .left,
       counting-last _ _ _ _ _ _ _ _ (c .before .before .before .loop .inv) (c .before .if3 .left),
       eq-eqb _ _ (c .if4 .taken),
@@ -135,7 +135,7 @@ returns-5 c =
       ← c .before .before .before .before .before .before .before .before .before .before .before .fit .ensures,
       c .before .before .before .before .before .before .before .before .before .p .given .1,
       ne-eqb _ _ (c .before .before .before .before .before .before .if1 .left),
-      ← c .before .before .before .before .before .any-beyond .ensures,
+      ← c .before .before .before .before .before .any-above .ensures,
       c .before .before .before .before .if2 .left,
       counting-last _ _ _ _ _ _ _ _ (c .before .before .before .loop .inv) (c .before .if3 .left),
       ne-eqb _ _ (c .if4 .left),
@@ -152,7 +152,7 @@ check-table-spec =
     enum-known-e
     returns
     returns-2
-    any-beyond-requires
+    any-above-requires
     returns-3
     loop-holds
     nth-u32-requires

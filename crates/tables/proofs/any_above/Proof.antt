@@ -1,21 +1,21 @@
--- `tables::any_beyond` meets its contract: whether a start from a bucket on is beyond is decided by that bucket or by those after it (`beyond-step`), and each turn leaves one bucket fewer.
+-- `tables::any_above` meets its contract: whether a start is too high from a bucket on is decided by that bucket or by those after it (`above-step`), and each turn leaves one bucket fewer.
 -- Assumes nothing.
 use Prim.Native.Nat.{_+_, _-_}
 use mathlib.Core.Path.{_≡_, refl}
 use native.Mathlib.Omega.{arith}
 use Rattle.hashes.specs.Table.{nthOf}
-use Rattle.tables.proofs.CheckLaws.{beyondFrom, beyond-first, beyond-step}
+use Rattle.tables.proofs.CheckLaws.{aboveFrom, above-first, above-step}
 use borrow.Author.Needs.{needs}
 use borrow.Author.Tests.{le-ltb, lt-ltb}
-use Rattle.tables.specs.Check.{anyBeyond, beyond}
-use Rattle.tables.proofs.any_beyond.Statement.{statement}
-use Rattle.tables.proofs.any_beyond.Tie as tie
-use Rattle.tables.proofs.any_beyond.Reads as reads
-use Rattle.tables.proofs.any_beyond.Lts as lts
+use Rattle.tables.specs.Check.{anyAbove, startAbove}
+use Rattle.tables.proofs.any_above.Statement.{statement}
+use Rattle.tables.proofs.any_above.Tie as tie
+use Rattle.tables.proofs.any_above.Reads as reads
+use Rattle.tables.proofs.any_above.Lts as lts
 use Rattle.hashes.proofs.nth_u32.Reads as nth-u32-reads
 
 abbrev Inv-loop : tie.InvT-loop
-Inv-loop order section starts buckets names last bucket₀ bucket = (last ≡ names + 1) × (anyBeyond names (nthOf order section starts) buckets ≡ beyondFrom names (nthOf order section starts) buckets bucket)
+Inv-loop order section starts buckets names last bucket₀ bucket = (last ≡ names + 1) × (anyAbove names (nthOf order section starts) buckets ≡ aboveFrom names (nthOf order section starts) buckets bucket)
 
 abbrev μ-loop : tie.MeasureT-loop
 μ-loop order section starts buckets names last bucket₀ bucket = buckets - bucket
@@ -26,7 +26,7 @@ add-last c = search needs
 
 -- src/lib.rt:49:5
 loop-holds : tie.Need-loop-holds Inv-loop μ-loop
-loop-holds c = (refl, beyond-first _ _ _)
+loop-holds c = (refl, above-first _ _ _)
 
 -- src/lib.rt:50:21
 nth-u32-requires : tie.Need-nth-u32-requires Inv-loop μ-loop
@@ -41,7 +41,7 @@ returns : tie.Need-returns Inv-loop μ-loop
 returns c =
     rw (
       c .before .before .before .loop .inv .1,
-      beyond-step,
+      above-step,
       lt-ltb _ _ (c .before .before .loop-test .taken),
       ← c .before .nth-u32 .ensures,
       ← c .before .before .before .loop .inv .0,
@@ -62,7 +62,7 @@ loop-again c = (
   c .before .before .before .loop .inv .0,
   rw (
     c .before .before .before .loop .inv .1,
-    beyond-step,
+    above-step,
     lt-ltb _ _ (c .before .before .loop-test .taken),
     ← c .before .nth-u32 .ensures,
     ← c .before .before .before .loop .inv .0,
@@ -75,12 +75,12 @@ returns-2 : tie.Need-returns-2 Inv-loop μ-loop
 returns-2 c =
     rw (
       c .before .loop .inv .1,
-      beyond-step,
+      above-step,
       le-ltb _ _ (c .loop-test .left),
     )
 
-pub any-beyond-spec : {M : Type 1} → statement M
-any-beyond-spec =
+pub any-above-spec : {M : Type 1} → statement M
+any-above-spec =
     tie.close
     (tie.spec
     Inv-loop
