@@ -11,11 +11,11 @@ use lib.Seq.{slice}
 use borrow.Author.Tests.{eq-eqb, eqb-true}
 use Rattle.reader.specs.Outcome.{Outcome, answered, refused, _>>=_, _>>_, demand, refuseIf}
 use Rattle.reader.specs.Parts.{partEnd, leftAt, Forward}
-use Rattle.reader.specs.Leb128.{leb128, unsignedLimit, u16Limit}
+use Rattle.leb128.specs.Leb128.{leb128, unsignedLimit, u16Limit}
 use Rattle.reader.specs.Listing.{listed, listing, Advances}
 use Rattle.reader.proofs.OutcomeLaws.{refused-answered, same-answer, bind-answered, then-answered, bind-both, cond-is}
 use Rattle.reader.proofs.PartLaws.{slice-from, slice-left}
-use Rattle.reader.proofs.Leb128Laws.{leb128-forward, leb128-none, leb128-part}
+use Rattle.leb128.proofs.Leb128Laws.{leb128-forward, leb128-none, leb128-part}
 use Rattle.reader.proofs.ListingLaws.{listing-step, listing-agree}
 use Rattle.abbreviations.specs.declared.NameAbbreviation.{NameAbbreviation}
 use Rattle.abbreviations.specs.declared.Abbreviation.{Abbreviation}

@@ -7,7 +7,7 @@ use mathlib.Core.Option.{Option, some, none}
 use lib.Dec.{eqb}
 use Rattle.reader.specs.Outcome.{Outcome, answered, refused, _>>=_, _>>_, demand, refuseIf}
 use Rattle.reader.specs.Parts.{partEnd, leftAt}
-use Rattle.reader.specs.Leb128.{leb128, unsignedLimit, u16Limit}
+use Rattle.leb128.specs.Leb128.{leb128, unsignedLimit, u16Limit}
 use Rattle.reader.specs.Listing.{Listing, ended, broken, item, listing}
 use Rattle.abbreviations.specs.declared.NameAbbreviation.{NameAbbreviation}
 use Rattle.abbreviations.specs.declared.Abbreviation.{Abbreviation}

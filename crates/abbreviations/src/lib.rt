@@ -75,11 +75,11 @@ pub enum AbbreviationRead {
 pub fn read_attribute(s: &[u8], at: usize, end: usize) -> AttributeRead
     ensures { λ r. ⌜ attributeOutcome r ≡ pair (now (s .entry)) at end ⌝ }
 {
-    let name = match reader::leb128::read::u16(s, at, end) {
+    let name = match leb128::read::u16(s, at, end) {
         U16Read::Value(r) => r,
         U16Read::Refused(e) => return AttributeRead::Refused(e),
     };
-    let form = match reader::leb128::read::u16(s, name.next, end) {
+    let form = match leb128::read::u16(s, name.next, end) {
         U16Read::Value(r) => r,
         U16Read::Refused(e) => return AttributeRead::Refused(e),
     };
@@ -124,14 +124,14 @@ fn read_head(s: &[u8], at: usize, end: usize) -> HeadRead
     if is_empty(s, at, end) {
         return HeadRead::End;
     }
-    let code = match reader::leb128::read::unsigned(s, at, end) {
+    let code = match leb128::read::unsigned(s, at, end) {
         U64Read::Value(r) => r,
         U64Read::Refused(e) => return HeadRead::Refused(e),
     };
     if code.value == 0 {
         return HeadRead::End;
     }
-    let tag = match reader::leb128::read::u16(s, code.next, end) {
+    let tag = match leb128::read::u16(s, code.next, end) {
         U16Read::Value(r) => r,
         U16Read::Refused(e) => return HeadRead::Refused(e),
     };

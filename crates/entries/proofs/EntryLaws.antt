@@ -10,12 +10,12 @@ use lib.Dec.{eqb}
 use Rattle.reader.specs.Outcome.{Outcome, answered, refused, _>>=_}
 use Rattle.reader.specs.Parts.{partEnd, skipped, Forward}
 use Rattle.reader.specs.Numbers.{Read}
-use Rattle.reader.specs.Leb128.{leb128, unsignedLimit}
+use Rattle.leb128.specs.Leb128.{leb128, unsignedLimit}
 use Rattle.reader.specs.declared.endianity.RunTimeEndian.{RunTimeEndian}
 use Rattle.reader.specs.declared.common.NameEntryOffset.{NameEntryOffset}
 use Rattle.reader.proofs.OutcomeLaws.{refused-answered, same-answer, bind-answered, bind-same}
 use Rattle.reader.proofs.PartLaws.{skip-answered}
-use Rattle.reader.proofs.Leb128Laws.{leb128-forward}
+use Rattle.leb128.proofs.Leb128Laws.{leb128-forward}
 use Rattle.abbreviations.specs.declared.NameAbbreviation.{NameAbbreviation}
 use Rattle.abbreviations.specs.declared.Abbreviation.{Abbreviation}
 use Rattle.abbreviations.specs.Abbreviations.{Declaration, handedOut, table, find, found}

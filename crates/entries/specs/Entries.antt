@@ -7,7 +7,7 @@ use mathlib.Core.Option.{Option, some, none}
 use lib.Dec.{eqb}
 use Rattle.reader.specs.Outcome.{Outcome, answered, refused, _>>=_}
 use Rattle.reader.specs.Parts.{skipped}
-use Rattle.reader.specs.Leb128.{leb128, unsignedLimit}
+use Rattle.leb128.specs.Leb128.{leb128, unsignedLimit}
 use Rattle.reader.specs.declared.endianity.RunTimeEndian.{RunTimeEndian}
 use Rattle.reader.specs.declared.common.NameEntryOffset.{NameEntryOffset}
 use Rattle.abbreviations.specs.Abbreviations.{table, find}

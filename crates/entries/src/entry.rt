@@ -55,7 +55,7 @@ pub enum PoolRead {
 pub fn read_entry(order: RunTimeEndian, section: &[u8], p: Parts, at: usize) -> PoolRead
     ensures { λ r. ⌜ poolOutcome r ≡ entryRead order (now (section .entry)) p at ⌝ }
 {
-    let code = match reader::leb128::read::unsigned(section, at, p.end) {
+    let code = match leb128::read::unsigned(section, at, p.end) {
         U64Read::Value(r) => r,
         U64Read::Refused(e) => return PoolRead::Refused(e),
     };

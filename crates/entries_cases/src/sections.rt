@@ -1,6 +1,6 @@
 // The sections of the cases, and the handles on them. In a layout, o is an offset in the pool.
-use index::DebugNames;
-use index::HeaderStep;
+use headers::DebugNames;
+use headers::HeaderStep;
 use index::IndexRead;
 use index::NameIndex;
 use reader::Format;

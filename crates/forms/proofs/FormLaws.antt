@@ -8,12 +8,12 @@ use lib.Dec.{eqb}
 use Rattle.reader.specs.Outcome.{Outcome, answered, refused, _>>=_}
 use Rattle.reader.specs.Parts.{partEnd, Forward}
 use Rattle.reader.specs.Numbers.{Read, readByte, readNumber}
-use Rattle.reader.specs.Leb128.{leb128, unsignedLimit}
+use Rattle.leb128.specs.Leb128.{leb128, unsignedLimit}
 use Rattle.reader.specs.declared.endianity.RunTimeEndian.{RunTimeEndian}
 use Rattle.reader.specs.declared.endianity.RunTimeEndian.the-variants.{Little}
 use Rattle.reader.proofs.OutcomeLaws.{refused-answered, same-answer, bind-answered}
 use Rattle.reader.proofs.NumberLaws.{read-forward}
-use Rattle.reader.proofs.Leb128Laws.{leb128-forward}
+use Rattle.leb128.proofs.Leb128Laws.{leb128-forward}
 use Rattle.forms.specs.declared.NameAttributeValue.{NameAttributeValue}
 use Rattle.forms.specs.Forms.{Valued, asFlag, asUnsigned, asOffset, formValue}
 use Rattle.forms.specs.Sanity.{ValuesOnward}

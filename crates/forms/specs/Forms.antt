@@ -6,7 +6,7 @@ use mathlib.Core.List.{List}
 use lib.Dec.{eqb}
 use Rattle.reader.specs.Outcome.{Outcome, answered, refused, _>>=_}
 use Rattle.reader.specs.Numbers.{Read, readByte, readNumber}
-use Rattle.reader.specs.Leb128.{leb128, unsignedLimit}
+use Rattle.leb128.specs.Leb128.{leb128, unsignedLimit}
 use Rattle.reader.specs.declared.endianity.RunTimeEndian.{RunTimeEndian}
 use Rattle.forms.specs.declared.NameAttributeValue.{NameAttributeValue}
 

@@ -133,12 +133,12 @@ pub fn read_debug_names_form_value(
         0x05 => unsigned(wide16(read_u16(order, s, at, end))),
         0x06 => unsigned(wide32(read_u32(order, s, at, end))),
         0x07 => unsigned(read_u64(order, s, at, end)),
-        0x0f => unsigned(reader::leb128::read::unsigned(s, at, end)),
+        0x0f => unsigned(leb128::read::unsigned(s, at, end)),
         0x11 => offset(wide8(read_u8(s, at, end))),
         0x12 => offset(wide16(read_u16(order, s, at, end))),
         0x13 => offset(wide32(read_u32(order, s, at, end))),
         0x14 => offset(read_u64(order, s, at, end)),
-        0x15 => offset(reader::leb128::read::unsigned(s, at, end)),
+        0x15 => offset(leb128::read::unsigned(s, at, end)),
         _ => ValueRead::Refused(Error::UnknownForm(form)),
     }
 }

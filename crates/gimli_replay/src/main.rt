@@ -3,14 +3,13 @@
 //
 // A case, all numbers little-endian: the call (1 byte), the byte order (1 byte, 0 little), the place, the part's end, an argument
 // and the section's length (2 bytes each), and the section's bytes.
+use leb128::read;
 use libc::STDIN_FILENO;
-use reader::DebugStr;
 use reader::DebugStrOffset;
 use reader::Format;
 use reader::RunTimeEndian;
 use reader::U8Read;
 use reader::U16Read;
-use reader::leb128::read;
 use reader::read_initial_length;
 use reader::read_u8;
 use reader::read_u16;
@@ -19,6 +18,7 @@ use reader::read_u64;
 use reader::read_word;
 use reader::skip;
 use reader::split;
+use strings::DebugStr;
 
 // A call, and where its section stands in the input.
 struct Call {

@@ -72,7 +72,8 @@ fn pass_over(
     let mut name = from;
     while name < index.name_count {
         let stored = nth_u32(order, section, table, name);
-        if bucket_of(index, stored) != bucket {
+        let own = bucket_of(index, stored);
+        if own != bucket {
             return Found::End(name + 1);
         }
         if stored == hash {

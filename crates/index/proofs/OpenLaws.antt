@@ -15,7 +15,7 @@ use Rattle.reader.proofs.OutcomeLaws.{same-answer, bind-answered, then-answered
 use Rattle.reader.proofs.PartLaws.{skip-inside, skip-past, skip-answered, slice-within}
 use Rattle.abbreviations.specs.Abbreviations.{parsed}
 use Rattle.abbreviations.proofs.AbbreviationLaws.{parsed-part}
-use Rattle.index.specs.declared.header.NameIndexHeader.{NameIndexHeader}
+use Rattle.headers.specs.declared.header.NameIndexHeader.{NameIndexHeader}
 use Rattle.index.specs.declared.layout.NameIndex.{NameIndex}
 use Rattle.index.specs.declared.layout.Parts.{Parts}
 use Rattle.index.specs.Layout.{sizes, placesFrom, place, parts, Fits}

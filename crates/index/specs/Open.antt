@@ -8,7 +8,7 @@ use Rattle.reader.specs.Outcome.{Outcome, answered, refused, _>>=_, _>>_, refus
 use Rattle.reader.specs.Errors.{longest}
 use Rattle.reader.specs.Parts.{skipped}
 use Rattle.abbreviations.specs.Abbreviations.{parsed}
-use Rattle.index.specs.declared.header.NameIndexHeader.{NameIndexHeader}
+use Rattle.headers.specs.declared.header.NameIndexHeader.{NameIndexHeader}
 use Rattle.index.specs.declared.layout.NameIndex.{NameIndex}
 use Rattle.index.specs.declared.layout.Parts.{Parts}
 use Rattle.index.specs.Layout.{sizes, parts}

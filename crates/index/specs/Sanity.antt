@@ -1,52 +1,16 @@
 -- What a reader of the definitions, and the crates above, may want to be sure of. The laws of proofs/ that have these types prove
--- them: HeaderLaws.antt, LayoutLaws.antt and OpenLaws.antt.
-use Prim.Native.Nat.{ℕ, suc, _+_, _-_, _*_, _≤_, _<_}
+-- them: LayoutLaws.antt and OpenLaws.antt.
+use Prim.Native.Nat.{ℕ, suc, _+_, _≤_, _<_}
 use mathlib.Core.Path.{_≡_}
-use mathlib.Core.Bool.{true}
-use mathlib.Core.List.{List, map}
-use mathlib.Core.Option.{some}
+use mathlib.Core.List.{List}
 use lib.ListN.{length, getD}
 use lib.Seq.{slice}
 use Rattle.reader.specs.Outcome.{answered}
 use Rattle.reader.specs.Errors.{longest}
-use Rattle.reader.specs.Steps.{Linked, hasEnd}
-use Rattle.reader.specs.declared.endianity.RunTimeEndian.{RunTimeEndian}
-use Rattle.index.specs.declared.header.HeaderCut.{HeaderCut}
-use Rattle.index.specs.declared.header.NameIndexHeader.{NameIndexHeader}
-use Rattle.index.specs.declared.headers.NameIndexHeaderIter.{NameIndexHeaderIter}
-use Rattle.index.specs.declared.headers.HeaderStep.{HeaderStep}
+use Rattle.headers.specs.declared.header.NameIndexHeader.{NameIndexHeader}
 use Rattle.index.specs.declared.layout.NameIndex.{NameIndex}
-use Rattle.index.specs.Header.{padding, headerBody, header}
-use Rattle.index.specs.Headers.{headerStep}
 use Rattle.index.specs.Layout.{sizes, place, Fits}
 use Rattle.index.specs.Open.{indexOf, nameIndex}
-use Rattle.index.specs.Answers.{headerStepOf}
-
--- the padding brings a size to a multiple of 4, and no smaller number does
-abbrev pub PaddingFills : Type 0
-PaddingFills = (size : ℕ) → (m : ℕ) × (size + padding size ≡ 4 * m)
-
-abbrev pub PaddingLeast : Type 0
-PaddingLeast = (size n m : ℕ) → size + n ≡ 4 * m → padding size ≤ n
-
--- a header fits the section that it was read from, and its index ends past its place
-abbrev pub HeadersFit : Type 0
-HeadersFit =
-    (order : RunTimeEndian) (s : List ℕ) (at : ℕ) (h : NameIndexHeader) → header order s at ≡ answered h
-    → (at < h .content .end) × (h .content .at ≤ h .content .end) × (h .content .end ≤ length s)
-
--- a step that gives a header moves forward and stays inside the section
-abbrev pub StepsForward : Type 0
-StepsForward =
-    (order : RunTimeEndian) (s : List ℕ) (c : NameIndexHeaderIter) (h : NameIndexHeader) → headerStep order s c .answer ≡ answered (some h)
-    → (c .at < headerStep order s c .cursor .at) × (headerStep order s c .cursor .at ≤ length s)
-
--- so a walk over the headers of a section ends: of any steps, each given the cursor of the one before, one is the end if they are
--- more than the bytes that were left
-abbrev pub WalksEnd : Type 0
-WalksEnd =
-    (order : RunTimeEndian) (s : List ℕ) (c : NameIndexHeaderIter) (rs : List HeaderStep) → length s ≤ longest → c .at ≤ length s
-    → Linked headerStepOf (headerStep order s) c rs → length s - c .at < length rs → hasEnd (map (λ r. headerStepOf r .answer) rs) ≡ true
 
 -- each part of an index begins where the one before it ends; the first begins where the parts begin
 abbrev pub PartsFollow : Type 0
@@ -60,12 +24,7 @@ PartsInside = (s : List ℕ) (i : NameIndex) → Fits s i → (j k : ℕ) → j 
 abbrev pub OpenedFits : Type 0
 OpenedFits = (s : List ℕ) (h : NameIndexHeader) (i : NameIndex) → nameIndex s h ≡ answered i → (length s ≤ longest) × Fits s i × (i ≡ indexOf h)
 
--- the fields of a header depend on the bytes of its own part alone, and so does what opening it answers
-abbrev pub BodiesInPart : Type 0
-BodiesInPart =
-    (order : RunTimeEndian) (s t : List ℕ) (c : HeaderCut) → c .body .end ≤ length s → c .body .end ≤ length t
-    → slice (c .body .at) (c .body .end) s ≡ slice (c .body .at) (c .body .end) t → headerBody order s c ≡ headerBody order t c
-
+-- what opening a header answers depends on the bytes of its own part alone
 abbrev pub OpensInPart : Type 0
 OpensInPart =
     (s t : List ℕ) (h : NameIndexHeader) → length s ≤ longest → length t ≤ longest → h .content .end ≤ length s → h .content .end ≤ length t

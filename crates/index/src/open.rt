@@ -1,5 +1,4 @@
 // An index from a header (gimli's `NameIndex::new`; document 01, "Headers and layout").
-use crate::header::NameIndexHeader;
 use crate::layout::NameIndex;
 use crate::layout::Parts;
 use crate::layout::PartsRead;
@@ -8,6 +7,7 @@ ghost use mathlib.Core.Path.{_≡_};
 ghost use Rattle.index.specs.Answers.{partsOutcome, indexOutcome};
 ghost use Rattle.index.specs.Open.{indexOf, partsInside, nameIndex};
 use abbreviations::TableRead;
+use headers::NameIndexHeader;
 use reader::Error;
 use reader::too_long;
 
@@ -94,11 +94,9 @@ impl NameIndex {
     }
 }
 
-impl NameIndexHeader {
-    // The index of this header: gimli's name for `NameIndex::new`.
-    pub fn index(self, section: &[u8]) -> IndexRead
-        ensures { λ r. ⌜ indexOutcome r ≡ nameIndex (now (section .entry)) self ⌝ }
-    {
-        NameIndex::new(section, self)
-    }
+// The index of a header: gimli's name for `NameIndex::new`, there a method of the header.
+pub fn index(section: &[u8], header: NameIndexHeader) -> IndexRead
+    ensures { λ r. ⌜ indexOutcome r ≡ nameIndex (now (section .entry)) header ⌝ }
+{
+    NameIndex::new(section, header)
 }

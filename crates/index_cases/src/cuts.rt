@@ -1,10 +1,10 @@
 // Case A cut short after each of its bytes.
 use crate::print;
 use crate::sections;
-use index::DebugNames;
-use index::HeaderStep;
+use headers::DebugNames;
+use headers::HeaderStep;
+use headers::NameIndexHeader;
 use index::NameIndex;
-use index::NameIndexHeader;
 use reader::RunTimeEndian;
 
 // The length field kept: no byte is the end of the section, one to three bytes are no length (1 at 0), and then the part of 105

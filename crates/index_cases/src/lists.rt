@@ -1,7 +1,7 @@
 // An index with 2 compile units, a local type unit, 2 foreign ones, no buckets and 2 names, in both formats.
 use crate::calls;
 use crate::cuts;
-use crate::headers;
+use crate::header_steps;
 use crate::print;
 use crate::sections;
 use index::NameIndex;
@@ -54,8 +54,8 @@ pub fn wide() {
 }
 
 fn every(on: &[u8], order: RunTimeEndian, s: &[u8]) {
-    headers::first(on, order, s);
-    headers::open(on, order, s);
+    header_steps::first(on, order, s);
+    header_steps::open(on, order, s);
     let i = sections::opened(order, s);
     calls::parts(on, s, i);
     calls::counts(on, s, i);

@@ -2,7 +2,7 @@
 // document 01 says, worked out by hand.
 mod calls; // the calls on an index, by name
 mod cuts; // case A cut short
-mod headers; // header steps
+mod header_steps; // header steps
 mod lists; // an index with several units, in both formats
 mod misfits; // handles that do not fit
 mod opened; // case A's index
@@ -20,21 +20,21 @@ fn main() {
 
 fn steps(a: &[u8]) {
     // case A: length at 0, version at 4, padding at 6, counts at 8 to 24, sizes at 28 and 32, content from 36 to 109
-    headers::case_a(a);
+    header_steps::case_a(a);
     // a part begins at 4, behind a 64-bit length at 12; after a refusal the cursor is at the section's end
-    headers::lengths();
+    header_steps::lengths();
     // 32 bytes follow the length: content at 36, or at 44
-    headers::smallest();
+    header_steps::smallest();
     // version at 4, padding at 6
-    headers::versions();
+    header_steps::versions();
     // indexes of 44 and 36 bytes, and a refused one of 6
-    headers::several();
+    header_steps::several();
     // case A cut short: the length at 0, the part at 4
     cuts::kept(a);
     // the fields at 4, 6, 8 to 32; the parts at 36, 40, 48, 60, 72 and 84; the pool from 91 on
     cuts::fitted();
     // the string at 36, the content at the next multiple of 4
-    headers::augmentations();
+    header_steps::augmentations();
 }
 
 fn index(a: &[u8]) {

@@ -3,9 +3,9 @@ use crate::calls;
 use crate::print;
 use crate::sections::FAR;
 use crate::sections::made;
-use index::Augmentation;
+use headers::Augmentation;
+use headers::NameIndexHeader;
 use index::NameIndex;
-use index::NameIndexHeader;
 use index::fit;
 use names::name_string;
 use names::name_string_slice;
@@ -47,7 +47,7 @@ fn header(name: &[u8], s: &[u8], at: usize, end: usize) {
     print::index_read(NameIndex::new(s, h));
     show::text(name);
     print::case(b", its method");
-    print::index_read(h.index(s));
+    print::index_read(index::index(s, h));
 }
 
 fn with_content(at: usize, end: usize) -> NameIndexHeader {

@@ -1,6 +1,6 @@
 // Case A opened, and every call on its index.
 use crate::calls;
-use crate::headers;
+use crate::header_steps;
 use crate::print;
 use crate::sections;
 use index::NameIndex;
@@ -15,7 +15,7 @@ use reader::RunTimeEndian;
 // Case A: units at 36, buckets at 40, hashes at 48, strings at 60, entry offsets at 72, abbreviations at 84, pool from 91 to 109.
 // The lists of local and of foreign type units are empty, at 40.
 pub fn case_a(a: &[u8]) {
-    headers::open(b"case A", RunTimeEndian::Little, a);
+    header_steps::open(b"case A", RunTimeEndian::Little, a);
     let i = sections::opened(RunTimeEndian::Little, a);
     calls::parts(b"case A", a, i);
     calls::counts(b"case A", a, i);
@@ -163,7 +163,7 @@ fn opens(name: &[u8], at: usize, value: u8) {
 
 // The index of a header is refused as its table is; a handle that fits all the same gives the refusal in the search.
 fn unopened(name: &[u8], a: &[u8]) {
-    headers::open(name, RunTimeEndian::Little, a);
+    header_steps::open(name, RunTimeEndian::Little, a);
     let i = sections::made(Format::Dwarf32, 1, 0, 0, 2, 3, 7, 36, 109);
     calls::code(name, a, i, 1);
     calls::code(name, a, i, 2);

@@ -1,9 +1,9 @@
 // The sections of the cases, and the handles that are made of numbers.
-use index::DebugNames;
-use index::HeaderStep;
+use headers::DebugNames;
+use headers::HeaderStep;
+use headers::NameIndexHeader;
 use index::IndexRead;
 use index::NameIndex;
-use index::NameIndexHeader;
 use reader::Format;
 use reader::RunTimeEndian;
 

@@ -10,7 +10,7 @@ use lib.Dec.{ltb, leb}
 use borrow.Author.Tests.{leb-true, leb-false}
 use Rattle.reader.specs.Outcome.{Outcome, answered, refused, _>>=_, _>>_, refuseIf}
 use Rattle.reader.specs.Errors.{longest}
-use Rattle.reader.specs.Strings.{getStr, textBytes, strBytes}
+use Rattle.strings.specs.Strings.{getStr, textBytes, strBytes}
 use Rattle.reader.specs.declared.endianity.RunTimeEndian.{RunTimeEndian}
 use Rattle.reader.specs.declared.common.DebugStrOffset.{DebugStrOffset}
 use Rattle.reader.specs.declared.common.NameTableIndex.{NameTableIndex}

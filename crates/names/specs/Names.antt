@@ -8,7 +8,7 @@ use lib.ListN.{length}
 use lib.Dec.{ltb, leb}
 use Rattle.reader.specs.Outcome.{Outcome, answered, refused, _>>=_, _>>_, refuseIf}
 use Rattle.reader.specs.Errors.{longest}
-use Rattle.reader.specs.Strings.{Text, getStr, textBytes}
+use Rattle.strings.specs.Strings.{Text, getStr, textBytes}
 use Rattle.reader.specs.Steps.{Step, keeping}
 use Rattle.reader.specs.declared.endianity.RunTimeEndian.{RunTimeEndian}
 use Rattle.reader.specs.declared.common.DebugStrOffset.{DebugStrOffset}

@@ -2,20 +2,20 @@
 // `name_string`; document 01, "Headers and layout" and "Strings").
 use crate::units::nth_word;
 ghost use mathlib.Core.Path.{_≡_};
-ghost use Rattle.reader.specs.Answers.{strOutcome};
+ghost use Rattle.strings.specs.Answers.{strOutcome};
 ghost use Rattle.names.specs.Answers.{nameStepOf, strOffsetOutcome};
 ghost use Rattle.names.specs.Names.{firstName, nameStep, nameStringOffset, nameString, nameStringBytes};
 use index::NameIndex;
 use index::PartsRead;
 use index::fit;
-use reader::DebugStr;
 use reader::DebugStrOffset;
 use reader::Error;
 use reader::NameTableIndex;
 use reader::RunTimeEndian;
-use reader::StrRead;
 use reader::WordRead;
 use reader::too_long;
+use strings::DebugStr;
+use strings::StrRead;
 
 // A cursor over the names of an index: the number of the next one. Any number fits.
 pub struct NameTableIter {

@@ -4,10 +4,10 @@
 // The input, all numbers little-endian: how many sections there are (2 bytes), and for each the byte order (1 byte, 0 little), the
 // lengths of .debug_names and .debug_str (2 bytes each, at most 4,096), and the bytes of the two. There is more of it than one
 // buffer holds: it is read a section at a time.
-mod headers; // header steps, and the index of each header
+mod header_steps; // header steps, and the index of each header
 mod line; // parts of a line
+mod name_strings; // names, their offsets and their strings
 mod pool; // the series of each name, and entries and their facts by handle
-mod strings; // names, their offsets and their strings
 mod table; // the abbreviations by code
 mod units; // counts and units
 
@@ -119,6 +119,6 @@ fn answer(order: RunTimeEndian, names: &[u8], n: usize, strings: &[u8], m: usize
     if strings.len() < m {
         return cut_short();
     }
-    headers::headers(order, &names[0..n], &strings[0..m]);
+    header_steps::headers(order, &names[0..n], &strings[0..m]);
     true
 }

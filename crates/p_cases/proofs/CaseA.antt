@@ -1,15 +1,20 @@
 -- Case A is what document 01 says, by computation.
-use mathlib.Core.Path.{refl}
+use Prim.Native.Nat.{ℕ}
+use mathlib.Core.Path.{_≡_, refl}
+use mathlib.Core.Bool.{Bool, true, false, cond}
+use mathlib.Core.List.{List, [], _∷_}
+use lib.Dec.{ltb}
+use borrow.Author.Tests.{ltb-true}
 use native.Mathlib.Omega.{arith}
 use Rattle.reader.specs.Errors.{longest}
 use Rattle.reader.specs.Parts.{skipped, cut}
-use Rattle.reader.specs.Numbers.{digits, spelled, no-bytes, byte-then, numberAt, readNumber, readByte, initialLength}
-use Rattle.reader.specs.Leb128.{leb128, numberOfBytes, numberBytes, someBeyond, beyond, complete, base128}
-use Rattle.reader.specs.Strings.{beforeZero, zeroFrom, getStr, textBytes}
+use Rattle.reader.specs.Numbers.{digits, spelled, Bytes, no-bytes, byte-then, numberAt, readNumber, readByte, initialLength}
+use Rattle.leb128.specs.Leb128.{leb128, numberOfBytes, numberBytes, someBeyond, beyond, complete, base128}
+use Rattle.strings.specs.Strings.{beforeZero, zeroFrom, getStr, textBytes}
 use Rattle.reader.specs.Listing.{listing, answersOf}
 use Rattle.reader.specs.Steps.{no-steps, step-then}
 use Rattle.abbreviations.specs.Abbreviations.{pair, attributesIn, attributes, head, withAttributes, declaration, table, ending, parsed, find, found}
-use Rattle.index.specs.Header.{headerCut, counts, augmentation, headerBody, header}
+use Rattle.headers.specs.Header.{headerCut, counts, augmentation, headerBody, header}
 use Rattle.index.specs.Layout.{wordBytes, hashBytes, sizes, placesFrom, place, parts, fitted}
 use Rattle.index.specs.Open.{indexOf, passedOver, cutParts, nameIndex}
 use Rattle.names.specs.Units.{nthWord, unitIn, compileUnit}
@@ -94,6 +99,20 @@ pub hash-steps-of-a : HashStepsOfA
 unfolding caseA indexA hashStep nextStoring storing filterb firstOr nthOf storedStart storedHash bucketOf namesFrom runFrom examinedFrom fromStart numbersFrom takeWhile numberAt spelled digits fitted parts place placesFrom sizes wordBytes hashBytes longest
 hash-steps-of-a = step-then refl (step-then refl (step-then refl no-steps))
 
+-- whether all numbers of a list are below 256: then it is a list of bytes
+unfoldable allBelow : List ℕ → Bool
+allBelow [] = true
+allBelow (b ∷ bs) = cond (ltb b 256) (allBelow bs) false
+
+bytes-below : (l : List ℕ) → allBelow l ≡ true → Bytes l
+unfolding allBelow
+bytes-below [] e = no-bytes
+bytes-below (b ∷ bs) e = tested (ltb b 256) refl e (bytes-below bs)
+  where
+    tested : (t : Bool) → ltb b 256 ≡ t → cond t (allBelow bs) false ≡ true → (allBelow bs ≡ true → Bytes bs) → Bytes (b ∷ bs)
+    tested true below e rest = byte-then (ltb-true b 256 below) (rest e)
+    tested false below e rest = absurd (let z : _≡_ {A = ℕ} 0 1 = cc in omega arith)
+
 pub lent-a : LentA
-unfolding caseA indexA
-lent-a = (search (byte-then, no-bytes, arith), omega arith)
+unfolding caseA indexA allBelow
+lent-a = (bytes-below caseA refl, omega arith)

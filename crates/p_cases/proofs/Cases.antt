@@ -3,7 +3,7 @@ use mathlib.Core.Path.{refl}
 use Rattle.reader.specs.Errors.{longest}
 use Rattle.reader.specs.Parts.{skipped}
 use Rattle.reader.specs.Numbers.{digits, spelled, numberAt, readNumber, readByte}
-use Rattle.reader.specs.Leb128.{leb128, numberOfBytes, numberBytes, someBeyond, beyond, complete, base128}
+use Rattle.leb128.specs.Leb128.{leb128, numberOfBytes, numberBytes, someBeyond, beyond, complete, base128}
 use Rattle.reader.specs.Listing.{listing}
 use Rattle.abbreviations.specs.Abbreviations.{pair, attributesIn, attributes, head, withAttributes, declaration, table, find}
 use Rattle.index.specs.Layout.{wordBytes, hashBytes, sizes, placesFrom, place, parts, fitted}

@@ -8,15 +8,15 @@ use mathlib.Core.Option.{Option, some}
 use lib.ListN.{length, take, drop}
 use Rattle.reader.specs.Outcome.{Outcome, answered, refused}
 use Rattle.reader.specs.Errors.{longest}
-use Rattle.reader.specs.Strings.{Text}
+use Rattle.strings.specs.Strings.{Text}
 use Rattle.reader.specs.declared.endianity.RunTimeEndian.{RunTimeEndian}
 use Rattle.reader.specs.declared.common.Format.{Format}
 use Rattle.abbreviations.specs.declared.Abbreviation.{Abbreviation}
-use Rattle.index.specs.declared.header.Augmentation.{Augmentation}
-use Rattle.index.specs.declared.header.NameIndexHeader.{NameIndexHeader}
+use Rattle.headers.specs.declared.header.Augmentation.{Augmentation}
+use Rattle.headers.specs.declared.header.NameIndexHeader.{NameIndexHeader}
 use Rattle.index.specs.declared.layout.NameIndex.{NameIndex}
 use Rattle.index.specs.declared.layout.Parts.{Parts}
-use Rattle.index.specs.Header.{header}
+use Rattle.headers.specs.Header.{header}
 use Rattle.index.specs.Layout.{Fits, fitted}
 use Rattle.index.specs.Open.{nameIndex}
 use Rattle.names.specs.Units.{compileUnit}

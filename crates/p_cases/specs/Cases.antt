@@ -6,7 +6,7 @@ use mathlib.Core.List.{List, [], _∷_, _++_}
 use lib.ListN.{length, replicate}
 use Rattle.reader.specs.Outcome.{Outcome, answered, refused}
 use Rattle.reader.specs.Numbers.{Read}
-use Rattle.reader.specs.Leb128.{leb128, unsignedLimit, u16Limit}
+use Rattle.leb128.specs.Leb128.{leb128, unsignedLimit, u16Limit}
 use Rattle.reader.specs.declared.endianity.RunTimeEndian.{RunTimeEndian}
 use Rattle.entries.specs.declared.entry.NameEntry.{NameEntry}
 use Rattle.entries.specs.Entries.{nameEntryHanded}

@@ -3,8 +3,5 @@ pub mod OutcomeLaws
 pub mod ErrorLaws
 pub mod PartLaws
 pub mod NumberLaws
-pub mod Leb128Laws
-pub mod Leb128Limits
-pub mod StringLaws
 pub mod ListingLaws
 pub mod StepLaws

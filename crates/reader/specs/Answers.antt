@@ -5,7 +5,6 @@ use Rattle.reader.specs.Outcome.{Outcome, answered}
 use Rattle.reader.specs.Errors.{refusal}
 use Rattle.reader.specs.Parts.{Cut}
 use Rattle.reader.specs.Numbers.{Read, Length}
-use Rattle.reader.specs.Strings.{Text}
 use Rattle.reader.specs.declared.reader.U8Read.{U8Read}
 use Rattle.reader.specs.declared.reader.U16Read.{U16Read}
 use Rattle.reader.specs.declared.reader.U32Read.{U32Read}
@@ -14,7 +13,6 @@ use Rattle.reader.specs.declared.reader.WordRead.{WordRead}
 use Rattle.reader.specs.declared.reader.LengthRead.{LengthRead}
 use Rattle.reader.specs.declared.reader.Skipped.{Skipped}
 use Rattle.reader.specs.declared.reader.PartRead.{PartRead}
-use Rattle.reader.specs.declared.str.StrRead.{StrRead}
 
 abbrev pub u8Outcome : U8Read → Outcome Read
 u8Outcome (U8Read.Value r) = answered (record { value = r .value; next = r .next })
@@ -47,7 +45,3 @@ skipOutcome (Skipped.Refused e) = refusal e
 abbrev pub partOutcome : PartRead → Outcome Cut
 partOutcome (PartRead.Value p) = answered (record { at = p .at; end = p .end })
 partOutcome (PartRead.Refused e) = refusal e
-
-abbrev pub strOutcome : StrRead → Outcome Text
-strOutcome (StrRead.Value r) = answered (record { start = r .start; len = r .len })
-strOutcome (StrRead.Refused e) = refusal e

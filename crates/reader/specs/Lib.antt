@@ -1,12 +1,10 @@
 -- What each call of the crate answers. Outcome: an answer or a refusal. Errors: the refusals' numbers and values. Parts: bytes
--- of a part. Numbers: fixed width, words, initial length. Leb128. Strings: .debug_str. Answers: the outcome of each answer.
+-- of a part. Numbers: fixed width, words, initial length. Answers: the outcome of each answer.
 -- For the crates above: Steps of a cursor, and Listing, what stands one after another in a part.
 pub mod Outcome
 pub mod Errors
 pub mod Parts
 pub mod Numbers
-pub mod Leb128
-pub mod Strings
 pub mod Answers
 pub mod Steps
 pub mod Listing

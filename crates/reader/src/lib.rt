@@ -1,6 +1,5 @@
-// The lowest layer of the .debug_names reader: bytes into numbers, in either byte order, with numbered refusals, and the
-// strings of .debug_str. It keeps document 01, "Why a call says no", "Bytes and numbers" and "Strings" (DWARF 5, sections
-// 7.4 and 7.6). Names are gimli's.
+// The lowest layer of the .debug_names reader: bytes into numbers, in either byte order, with numbered refusals. It keeps
+// document 01, "Why a call says no" and "Bytes and numbers" without LEB128 (DWARF 5, section 7.4). Names are gimli's.
 //
 // A section is read at a place, in a part. A place (document 01's term) is a byte offset from the section's start. A part
 // is given by the place where it ends, `end`; what lies past the section's own end belongs to no part. Any numbers are
@@ -9,8 +8,6 @@ pub mod error; // why a call says no
 pub mod endianity; // the byte order
 pub mod common; // the format, and the offset types
 pub mod reader; // numbers of fixed width, words, initial length, skip, split
-pub mod leb128; // LEB128 numbers
-pub mod str; // .debug_str
 
 pub use common::DebugInfoOffset;
 pub use common::DebugNamesOffset;
@@ -49,6 +46,3 @@ pub use reader::read_word;
 pub use reader::skip;
 pub use reader::split;
 pub use reader::u32_at;
-pub use str::DebugStr;
-pub use str::Str;
-pub use str::StrRead;

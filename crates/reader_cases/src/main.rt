@@ -1,12 +1,11 @@
 // Document 01's cases for bytes, numbers, refusals and strings that are not marked P, a named case on each line. The file stdout
 // beside src/ has what document 01 says, worked out by hand.
-use reader::DebugStr;
+use leb128::read;
 use reader::DebugStrOffset;
 use reader::Error;
 use reader::Format;
 use reader::NameEntryOffset;
 use reader::RunTimeEndian;
-use reader::leb128::read;
 use reader::read_initial_length;
 use reader::read_offset;
 use reader::read_u8;
@@ -16,6 +15,7 @@ use reader::read_u64;
 use reader::read_word;
 use reader::skip;
 use reader::split;
+use strings::DebugStr;
 
 const FAR: usize = 18446744073709551615;
 

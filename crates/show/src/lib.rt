@@ -5,12 +5,12 @@ use reader::Error;
 use reader::LengthRead;
 use reader::PartRead;
 use reader::Skipped;
-use reader::StrRead;
 use reader::U8Read;
 use reader::U16Read;
 use reader::U32Read;
 use reader::U64Read;
 use reader::WordRead;
+use strings::StrRead;
 
 // Bytes, as they are.
 pub fn text(bytes: &[u8]) {

@@ -11,7 +11,6 @@ use lib.ListN.{length}
 use Prim.Native.Nat.{_≤_}
 use denote.Ref.{now}
 use borrow.Author.Tests.{le-ltb, lt-ltb}
-use Rattle.index.specs.Header.{header}
 use Rattle.index.specs.Open.{nameIndex}
 use Rattle.index.proofs.layout.NameIndex.new.Statement.{statement}
 use Rattle.index.proofs.layout.NameIndex.new.Tie as tie

@@ -1,0 +1,126 @@
+// LEB128 numbers within document 01's limits (gimli's leb128.rs; document 01, "Bytes and numbers"; DWARF 5, section 7.6), each read
+// at a place of a part as the readings of `reader` are.
+ghost use mathlib.Core.Path.{_≡_};
+ghost use Rattle.reader.specs.Answers.{u16Outcome, u64Outcome};
+ghost use Rattle.leb128.specs.Leb128.{leb128, unsignedLimit, u16Limit};
+
+// Reading.
+pub mod read {
+    use reader::Error;
+    use reader::Read16;
+    use reader::Read64;
+    use reader::U8Read;
+    use reader::U16Read;
+    use reader::U64Read;
+    use reader::read_u8;
+
+    // An unsigned number of 64 bits, a byte at a time. `scale` is what the byte at `place` counts for: 128 to the power of its
+    // position `i`.
+    fn bytewise(s: &[u8], at: usize, end: usize) -> U64Read
+        ensures { λ r. ⌜ u64Outcome r ≡ leb128 unsignedLimit (now (s .entry)) at end ⌝ }
+    {
+        let mut value: u64 = 0;
+        let mut scale: u64 = 1;
+        let mut i: usize = 0;
+        let mut place = at;
+        while i < 9 {
+            let b = match read_u8(s, place, end) {
+                U8Read::Value(r) => r,
+                U8Read::Refused(e) => return U64Read::Refused(e),
+            };
+            let byte = b.value;
+            if byte < 128 {
+                return U64Read::Value(Read64 {
+                    value: value + scale * (byte as u64),
+                    next: b.next,
+                });
+            }
+            value = value + scale * ((byte % 128) as u64);
+            scale = 128 * scale;
+            i = i + 1;
+            place = b.next;
+        }
+        let b = match read_u8(s, place, end) {
+            U8Read::Value(r) => r,
+            U8Read::Refused(e) => return U64Read::Refused(e),
+        };
+        let byte = b.value;
+        if 1 < byte {
+            return U64Read::Refused(Error::BadUnsignedLeb128);
+        }
+        U64Read::Value(Read64 {
+            value: value + scale * (byte as u64),
+            next: b.next,
+        })
+    }
+
+    // An unsigned number of 64 bits. Nearly every number has one byte or two: these are read apart, and the loop stays out of
+    // the callers' code.
+    pub fn unsigned(s: &[u8], at: usize, end: usize) -> U64Read
+        ensures { λ r. ⌜ u64Outcome r ≡ leb128 unsignedLimit (now (s .entry)) at end ⌝ }
+    {
+        let a = match read_u8(s, at, end) {
+            U8Read::Value(r) => r,
+            U8Read::Refused(e) => return U64Read::Refused(e),
+        };
+        let first = a.value;
+        if first < 128 {
+            return U64Read::Value(Read64 {
+                value: first as u64,
+                next: a.next,
+            });
+        }
+        let b = match read_u8(s, a.next, end) {
+            U8Read::Value(r) => r,
+            U8Read::Refused(e) => return U64Read::Refused(e),
+        };
+        let second = b.value;
+        if second < 128 {
+            return U64Read::Value(Read64 {
+                value: (first % 128) as u64 + 128 * (second as u64),
+                next: b.next,
+            });
+        }
+        bytewise(s, at, end)
+    }
+
+    // An unsigned number of 16 bits, which has at most three bytes.
+    pub fn u16(s: &[u8], at: usize, end: usize) -> U16Read
+        ensures { λ r. ⌜ u16Outcome r ≡ leb128 u16Limit (now (s .entry)) at end ⌝ }
+    {
+        let a = match read_u8(s, at, end) {
+            U8Read::Value(r) => r,
+            U8Read::Refused(e) => return U16Read::Refused(e),
+        };
+        let first = a.value;
+        if first < 128 {
+            return U16Read::Value(Read16 {
+                value: first as u16,
+                next: a.next,
+            });
+        }
+        let b = match read_u8(s, a.next, end) {
+            U8Read::Value(r) => r,
+            U8Read::Refused(e) => return U16Read::Refused(e),
+        };
+        let second = b.value;
+        if second < 128 {
+            return U16Read::Value(Read16 {
+                value: (first % 128) as u16 + 128 * (second as u16),
+                next: b.next,
+            });
+        }
+        let c = match read_u8(s, b.next, end) {
+            U8Read::Value(r) => r,
+            U8Read::Refused(e) => return U16Read::Refused(e),
+        };
+        let third = c.value;
+        if 3 < third {
+            return U16Read::Refused(Error::BadUnsignedLeb128);
+        }
+        U16Read::Value(Read16 {
+            value: (first % 128) as u16 + 128 * ((second % 128) as u16 + 128 * (third as u16)),
+            next: c.next,
+        })
+    }
+}
