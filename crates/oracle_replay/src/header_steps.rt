@@ -1,4 +1,5 @@
 // Header steps from the start of a section up to the end, and all calls on the index of each header.
+use crate::hash_table;
 use crate::line;
 use crate::name_strings;
 use crate::pool;
@@ -90,6 +91,7 @@ fn open(order: RunTimeEndian, s: &[u8], strings: &[u8], h: NameIndexHeader) {
             units::units(order, s, i);
             name_strings::strings(order, s, strings, i);
             table::abbreviations(s, i);
+            hash_table::hash_table(order, s, i);
             pool::entries(order, s, i);
         }
         IndexRead::Refused(e) => show::refused(e),

@@ -4,6 +4,7 @@
 // The input, all numbers little-endian: how many sections there are (2 bytes), and for each the byte order (1 byte, 0 little), the
 // lengths of .debug_names and .debug_str (2 bytes each, at most 4,096), and the bytes of the two. There is more of it than one
 // buffer holds: it is read a section at a time.
+mod hash_table; // the names of each bucket and of hashes, and the table check
 mod header_steps; // header steps, and the index of each header
 mod line; // parts of a line
 mod name_strings; // names, their offsets and their strings

@@ -1,13 +1,14 @@
 //! gimli's answers to all calls on a case, as lines of text. README.md has the form of the lines; the program
 //! crates/oracle_replay writes the same lines from this project's library.
 //!
-//! To add calls (buckets, hashes): a function here that asks gimli and writes a line for each call, called from `opened`, and the same
-//! lines in the same order in crates/oracle_replay. `pool` has those on entries.
+//! To add calls: a function here that asks gimli and writes a line for each call, called from `opened`, and the same lines in the same
+//! order in crates/oracle_replay. `hashes` has those on hash tables, `pool` those on entries.
 
 use std::collections::BTreeMap;
 use std::fmt::Display;
 
 use crate::case::Case;
+use crate::hashes;
 use crate::lent::{Bytes, Lent, Memory};
 use crate::pool;
 use gimli::{DebugNames, DebugStr, NameAbbreviation, NameIndex, NameIndexHeader, NameTableIndex, NameTypeUnit};
@@ -134,6 +135,7 @@ fn opened(lent: &Lent, index: &NameIndex<Bytes>, out: &mut Answers) {
     names(index, out);
     strings(lent, index, out);
     abbreviations(index, out);
+    hashes::hash_table(lent, index, out);
     pool::entries(lent, index, out);
 }
 

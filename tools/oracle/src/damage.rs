@@ -5,6 +5,7 @@ use crate::bytes::{Writer, leb128};
 use crate::case::Case;
 use crate::model::{COUNTS, Count, Index, Section};
 use crate::random::Random;
+use crate::valid;
 
 /// A damage.
 pub type Damage = fn(&mut Random, Section) -> Case;
@@ -39,6 +40,9 @@ pub const ENTRY_DAMAGES: [Damage; 6] = [
     form_unknown,
     declaration_missing,
 ];
+
+/// Damages of hash tables.
+pub const TABLE_DAMAGES: [Damage; 2] = [start_changed, stored_hash_changed];
 
 /// One of the indexes.
 fn some_index<'a>(random: &mut Random, section: &'a mut Section) -> &'a mut Index {
@@ -346,5 +350,44 @@ fn declaration_missing(random: &mut Random, mut section: Section) -> Case {
     if !declarations.is_empty() {
         declarations.remove(random.below(declarations.len()));
     }
+    Case::encoded(&section)
+}
+
+/// A section, and one of its indexes that have a hash table with names. Where it has none, another section.
+fn with_table(random: &mut Random, mut section: Section) -> (Section, usize) {
+    loop {
+        let hashed = |number: &usize| !section.indexes[*number].hashes.is_empty();
+        let tables: Vec<usize> = (0..section.indexes.len()).filter(hashed).collect();
+        if !tables.is_empty() {
+            return (section, random.pick(&tables));
+        }
+        section = valid::section(random);
+    }
+}
+
+/// The start of a bucket is another one: none, one too early or too late, any name's, or past the last name.
+fn start_changed(random: &mut Random, section: Section) -> Case {
+    let (mut section, which) = with_table(random, section);
+    let index = &mut section.indexes[which];
+    let names = index.hashes.len() as u32;
+    let bucket = random.below(index.buckets.len());
+    let start = index.buckets[bucket];
+    let any = random.between(1, names as usize) as u32;
+    let others = [0, start.wrapping_sub(1), start + 1, any, any, names + 1, names + 2, u32::MAX];
+    let others: Vec<u32> = others.into_iter().filter(|other| *other != start).collect();
+    index.buckets[bucket] = random.pick(&others);
+    Case::encoded(&section)
+}
+
+/// The hash of a name is another one: the next or the one before, with another highest bit, another name's, or any.
+fn stored_hash_changed(random: &mut Random, section: Section) -> Case {
+    let (mut section, which) = with_table(random, section);
+    let hashes = &mut section.indexes[which].hashes;
+    let name = random.below(hashes.len());
+    let hash = hashes[name];
+    let (another, any) = (random.pick(hashes), random.next() as u32);
+    let others = [hash.wrapping_add(1), hash.wrapping_sub(1), hash ^ 0x8000_0000, another, any];
+    let others: Vec<u32> = others.into_iter().filter(|other| *other != hash).collect();
+    hashes[name] = random.pick(&others);
     Case::encoded(&section)
 }

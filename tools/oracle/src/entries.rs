@@ -34,7 +34,8 @@ pub fn cases() -> Vec<Case> {
     sections.iter().map(Case::encoded).collect()
 }
 
-fn section(order: Order, indexes: Vec<Index>) -> Section {
+/// A section of these indexes.
+pub fn section(order: Order, indexes: Vec<Index>) -> Section {
     Section { order, indexes, strings: b"\0abc\0".to_vec() }
 }
 
@@ -60,7 +61,7 @@ fn index(wide: bool, declared: &[Declared], pool: &[u8], entry_offsets: &[u64]) 
 }
 
 /// The same with one compile unit and no type unit.
-fn small(wide: bool, declared: &[Declared], pool: &[u8], entry_offsets: &[u64]) -> Index {
+pub fn small(wide: bool, declared: &[Declared], pool: &[u8], entry_offsets: &[u64]) -> Index {
     Index {
         compile_units: vec![0x10],
         local_type_units: Vec::new(),

@@ -47,6 +47,59 @@ abbreviation 127 -
 abbreviation 128 -
 abbreviation 300 -
 abbreviation 18446744073709551615 -
+find_by_bucket 0 0
+next_in_bucket 0 4
+next_in_bucket end
+next_in_bucket end
+next_in_bucket end
+find_by_bucket 1 1
+next_in_bucket 1 7
+next_in_bucket 2 9
+next_in_bucket end
+next_in_bucket end
+next_in_bucket end
+find_by_bucket 2 refused 1 48
+find_by_bucket 3 refused 1 40
+find_by_hash 4 0
+next_of_hash 0
+next_of_hash end
+next_of_hash end
+next_of_hash end
+find_by_hash 7 1
+next_of_hash 1
+next_of_hash end
+next_of_hash end
+next_of_hash end
+find_by_hash 9 1
+next_of_hash 2
+next_of_hash end
+next_of_hash end
+next_of_hash end
+find_by_hash 0 0
+next_of_hash end
+next_of_hash end
+next_of_hash end
+find_by_hash 1 1
+next_of_hash end
+next_of_hash end
+next_of_hash end
+find_by_hash 1 1
+next_of_hash end
+next_of_hash end
+next_of_hash end
+find_by_hash 5381 1
+next_of_hash end
+next_of_hash end
+next_of_hash end
+find_by_hash 4294967295 1
+next_of_hash end
+next_of_hash end
+next_of_hash end
+find_by_hash 5 1
+next_of_hash end
+next_of_hash end
+next_of_hash end
+table complete
 name_entries 0 91
 next 0 1 46
 next end

@@ -3,9 +3,10 @@
 //!     GIMLI_SRC=FOLDER cargo run --release -- OUTPUT_FOLDER
 //!
 //! README.md has the whole. What is where: `random`, the random numbers; `bytes`, numbers into bytes; `model`, what a section is
-//! made of; `valid`, valid sections; `damage`, damaged ones; `fixed` and `entries`, sections that are not random; `case`, the file of
-//! sections; `lent`, the sections as gimli reads them and its errors as refusals; `answers`, the calls, and `pool`, those on entries;
-//! `check`, what must hold of gimli and of the valid sections. The library of this package, src/lib.rs, is gimli.
+//! made of; `valid`, valid sections; `damage`, damaged ones; `fixed`, `entries` and `tables`, sections that are not random; `case`, the
+//! file of sections; `lent`, the sections as gimli reads them and its errors as refusals; `answers`, the calls, `hashes`, those on hash
+//! tables, and `pool`, those on entries; `check`, what must hold of gimli and of the valid sections. The library of this package,
+//! src/lib.rs, is gimli.
 
 mod answers;
 mod bytes;
@@ -14,10 +15,12 @@ mod check;
 mod damage;
 mod entries;
 mod fixed;
+mod hashes;
 mod lent;
 mod model;
 mod pool;
 mod random;
+mod tables;
 mod valid;
 
 use std::path::Path;
@@ -29,9 +32,10 @@ use random::Random;
 
 const SEED: u64 = 0x0064_6562_7567_0005;
 
-/// How many random sections of each kind: valid ones, and damaged ones for each damage.
+/// How many random sections of each kind: valid ones, and damaged ones for each damage, fewer of them for those of hash tables.
 const VALID: usize = 200;
 const EACH_DAMAGE: usize = 18;
+const EACH_TABLE_DAMAGE: usize = 12;
 
 /// Every case, in the order of the file.
 fn cases() -> Vec<Case> {
@@ -42,15 +46,17 @@ fn cases() -> Vec<Case> {
         check::valid(&case);
         cases.push(case);
     }
-    cases.extend(damaged(&mut random, &damage::DAMAGES));
-    cases.extend(damaged(&mut random, &damage::ENTRY_DAMAGES));
+    cases.extend(damaged(&mut random, EACH_DAMAGE, &damage::DAMAGES));
+    cases.extend(damaged(&mut random, EACH_DAMAGE, &damage::ENTRY_DAMAGES));
+    cases.extend(damaged(&mut random, EACH_TABLE_DAMAGE, &damage::TABLE_DAMAGES));
+    cases.extend(tables::cases());
     cases
 }
 
-/// Sections with each of the damages in turn.
-fn damaged(random: &mut Random, damages: &[Damage]) -> Vec<Case> {
+/// Sections with each of the damages in turn, that many times.
+fn damaged(random: &mut Random, times: usize, damages: &[Damage]) -> Vec<Case> {
     let mut cases = Vec::new();
-    for _ in 0..EACH_DAMAGE {
+    for _ in 0..times {
         for damage in damages {
             let section = valid::section(random);
             cases.push(damage(random, section));

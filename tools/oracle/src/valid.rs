@@ -115,7 +115,11 @@ fn hash_table(random: &mut Random, names: usize) -> (Vec<u32>, Vec<u32>) {
         return (Vec::new(), Vec::new());
     }
     let count = random.between(1, 4) as u32;
-    let mut hashes: Vec<u32> = (0..names).map(|_| hash(random)).collect();
+    sorted_table(count, (0..names).map(|_| hash(random)).collect())
+}
+
+/// The starts of that many buckets, and the hashes in the order of their buckets.
+pub fn sorted_table(count: u32, mut hashes: Vec<u32>) -> (Vec<u32>, Vec<u32>) {
     hashes.sort_by_key(|hash| hash % count);
     let first = |bucket| hashes.iter().position(|hash| hash % count == bucket);
     let start = |bucket| first(bucket).map_or(0, |place| place as u32 + 1);
