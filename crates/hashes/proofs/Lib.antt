@@ -1,4 +1,3 @@
 -- Laws of the definitions, a file for each file of specs/. Callers cite these, and do not unfold.
-pub mod ListLaws
 pub mod TableLaws
 pub mod LookupLaws

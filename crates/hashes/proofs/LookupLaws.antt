@@ -33,13 +33,13 @@ use Rattle.hashes.specs.declared.hash.NameHashIter.{NameHashIter}
 use Rattle.hashes.specs.declared.hash.Found.{Found}
 use Rattle.hashes.specs.declared.hash.HashRead.{HashRead}
 use Rattle.hashes.specs.declared.hash.NameHashStep.{NameHashStep}
-use Rattle.hashes.specs.Lists.{numbersFrom, filterb, takeWhile}
+use Rattle.reader.specs.Lists.{numbersFrom, filterb, takeWhile}
 use Rattle.hashes.specs.Table.{nthOf, storedStart, storedHash, bucketOf, namesFrom, runFrom, examinedFrom, fromStart, run, storing, namesOfHash}
 use Rattle.hashes.specs.Lookups.{bucketCursor, hashCursor, findByBucket, findByHash, firstOr, nextInBucket, nextStoring, hashed, bucketMoved, hashMoved, bucketStep, hashStep}
 use Rattle.hashes.specs.Answers.{bucketOutcome, bucketStepOf, hashOutcome, hashStepOf}
 use Rattle.hashes.specs.Demand3.{bucketAnswers, hashAnswers, bucketNames, hashNames, BucketLookups, HashLookups}
 use Rattle.hashes.specs.Sanity.{NoneAtZero, BucketsEnd, HashesEnd, StepsFollow}
-use Rattle.hashes.proofs.ListLaws.{numbers-length, while-length, filter-length}
+use Rattle.reader.proofs.ListLaws.{numbers-length, while-length, filter-length}
 use Rattle.hashes.proofs.TableLaws.{hashes-end, buckets-end, strings-inside, names-step, run-step, next-in-step, storing-rest, run-length, hash-names-length}
 
 -- what stands for a stored start: none for 0, else the cursor before the first name

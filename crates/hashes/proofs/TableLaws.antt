@@ -14,8 +14,8 @@ use Rattle.index.specs.declared.layout.Parts.{Parts}
 use Rattle.index.specs.Layout.{parts, place, placesFrom, sizes, hashBytes, Fits, fitted}
 use Rattle.index.proofs.LayoutLaws.{places-ascend, fitted-answered}
 use Rattle.hashes.specs.declared.hash.Found.{Found}
-use Rattle.hashes.specs.Lists.{numbersFrom, filterb, takeWhile, memberb}
-use Rattle.hashes.proofs.ListLaws.{past-other, false-true, numbers-length, while-length, while-take, take-shorter, filter-length, nil-cons, head-same, tail-same}
+use Rattle.reader.specs.Lists.{numbersFrom, filterb, takeWhile, memberb}
+use Rattle.reader.proofs.ListLaws.{past-other, false-true, numbers-length, while-length, while-take, take-shorter, filter-length, nil-cons, head-same, tail-same}
 use Rattle.reader.specs.declared.endianity.RunTimeEndian.{RunTimeEndian}
 use Rattle.hashes.specs.Table.{storedStart, storedHash, bucketOf, namesFrom, runFrom, examinedFrom, fromStart, run, examined, storing, namesOfHash}
 use Rattle.hashes.specs.Sanity.{ExaminedRun}

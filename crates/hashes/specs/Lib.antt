@@ -1,7 +1,6 @@
--- What each call of the crate answers. Lists: what is taken of a list by a test. Table: what an index's hash table stores, the run of a
+-- What each call of the crate answers. Table: what an index's hash table stores, the run of a
 -- bucket and the names that store a hash. Lookups: the calls and their steps. Answers: the outcome of each answer. Demand3: the theorems
 -- about lists of steps. Sanity: what a reader of the definitions may want to be sure of.
-pub mod Lists
 pub mod Table
 pub mod Lookups
 pub mod Answers

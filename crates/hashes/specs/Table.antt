@@ -10,7 +10,7 @@ use Rattle.reader.specs.declared.endianity.RunTimeEndian.{RunTimeEndian}
 use Rattle.index.specs.declared.layout.NameIndex.{NameIndex}
 use Rattle.index.specs.declared.layout.Parts.{Parts}
 use Rattle.index.specs.Layout.{parts}
-use Rattle.hashes.specs.Lists.{numbersFrom, filterb, takeWhile}
+use Rattle.reader.specs.Lists.{numbersFrom, filterb, takeWhile}
 
 -- the number of four bytes at a position of a table of such numbers
 unfoldable pub nthOf : RunTimeEndian → List ℕ → ℕ → ℕ → ℕ

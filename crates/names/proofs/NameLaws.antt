@@ -18,9 +18,10 @@ use Rattle.index.specs.declared.layout.NameIndex.{NameIndex}
 use Rattle.index.specs.Layout.{Fits, fitted}
 use Rattle.index.proofs.LayoutLaws.{fitted-fits}
 use Rattle.reader.specs.Steps.{Linked, no-steps, step-then}
+use Rattle.reader.specs.Lists.{numbersFrom}
 use Rattle.names.specs.declared.table.NameTableStep.{NameTableStep}
 use Rattle.names.specs.Answers.{nameStepOf}
-use Rattle.names.specs.Sanity.{numbersFrom, named, theEnd, NamesInOrder}
+use Rattle.names.specs.Sanity.{named, theEnd, NamesInOrder}
 use Rattle.names.specs.Names.{before, firstName, stepFrom, nameStep, nameStringOffset, nameString, nameStringBytes}
 
 -- the bytes of the string at an offset; none where the offset is refused
@@ -65,7 +66,7 @@ step-end : (i : NameIndex) (k : ℕ) → leb (i .«name_count») k ≡ true → 
 unfolding stepFrom
 step-end i k e = rw e
 
-step-name : (i : NameIndex) (k : ℕ) → leb (i .«name_count») k ≡ false → stepFrom i k ≡ record { answer = named (record { 0 = k }); cursor = before (k + 1) }
+step-name : (i : NameIndex) (k : ℕ) → leb (i .«name_count») k ≡ false → stepFrom i k ≡ record { answer = named k; cursor = before (k + 1) }
 unfolding stepFrom
 step-name i k e = rw e
 
@@ -74,12 +75,11 @@ abbrev after : NameIndex → ℕ → ℕ → List (Outcome (Option NameTableInde
 after i k j = map named (numbersFrom k (i .«name_count» - k)) ++ replicate j theEnd
 
 -- before the last name, that name comes first; past it, an end does
-after-name : (i : NameIndex) (k j : ℕ) → k < i .«name_count» → after i k j ≡ named (record { 0 = k }) ∷ after i (k + 1) j
+after-name : (i : NameIndex) (k j : ℕ) → k < i .«name_count» → after i k j ≡ named k ∷ after i (k + 1) j
 unfolding numbersFrom
 after-name i k j h =
     let more : i .«name_count» - k ≡ suc (i .«name_count» - (k + 1)) = omega arith in
-    let next : suc k ≡ k + 1 = omega arith in
-    rw (more, next) refl
+    rw more refl
 
 after-end : (i : NameIndex) (k j : ℕ) → i .«name_count» ≤ k → after i k (suc j) ≡ theEnd ∷ after i k j
 unfolding numbersFrom
@@ -107,7 +107,7 @@ steps-from s i (r ∷ rs) k (suc j) short fits enough (step-then is linked) =
         rw (after-end i k j (leb-true _ _ e))
         (ap₂ (λ o os. o ∷ os) (ap (λ t. t .answer) (step ∙ ended)) (rest k j (omega arith) (ap (λ t. t .cursor) (step ∙ ended))))
     by-cases false e step rest =
-        let gave : stepFrom i k ≡ record { answer = named (record { 0 = k }); cursor = before (k + 1) } = step-name i k e in
+        let gave : stepFrom i k ≡ record { answer = named k; cursor = before (k + 1) } = step-name i k e in
         rw (after-name i k (suc j) (leb-false _ _ e))
         (ap₂ (λ o os. o ∷ os) (ap (λ t. t .answer) (step ∙ gave)) (rest (k + 1) (suc j) (omega arith) (ap (λ t. t .cursor) (step ∙ gave))))
 

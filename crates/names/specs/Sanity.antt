@@ -1,13 +1,14 @@
 -- Theorems over several calls, and what a reader of the definitions may want to be sure of. The laws of proofs/NameLaws.antt that
 -- have these types prove them.
-use Prim.Native.Nat.{ℕ, zero, suc, _≤_}
+use Prim.Native.Nat.{ℕ, _≤_}
 use mathlib.Core.Path.{_≡_}
-use mathlib.Core.List.{List, [], _∷_, _++_, map}
+use mathlib.Core.List.{List, _++_, map}
 use mathlib.Core.Option.{Option, some, none}
 use lib.ListN.{length, take, replicate}
 use Rattle.reader.specs.Outcome.{Outcome, answered}
 use Rattle.reader.specs.Errors.{longest}
 use Rattle.reader.specs.Steps.{Linked}
+use Rattle.reader.specs.Lists.{numbersFrom}
 use Rattle.reader.specs.declared.common.NameTableIndex.{NameTableIndex}
 use Rattle.index.specs.declared.layout.NameIndex.{NameIndex}
 use Rattle.index.specs.Layout.{Fits}
@@ -15,14 +16,9 @@ use Rattle.names.specs.declared.table.NameTableStep.{NameTableStep}
 use Rattle.names.specs.Names.{firstName, nameStep}
 use Rattle.names.specs.Answers.{nameStepOf}
 
--- the n names from number k on
-unfoldable pub numbersFrom : ℕ → ℕ → List NameTableIndex
-numbersFrom k zero = []
-numbersFrom k (suc n) = record { 0 = k } ∷ numbersFrom (suc k) n
-
--- a name, and the end, as a step answers them
-abbrev pub named : NameTableIndex → Outcome (Option NameTableIndex)
-named name = answered (some name)
+-- a name of that number, and the end, as a step answers them
+abbrev pub named : ℕ → Outcome (Option NameTableIndex)
+named k = answered (some (record { 0 = k }))
 
 abbrev pub theEnd : Outcome (Option NameTableIndex)
 theEnd = answered none

@@ -26,7 +26,7 @@ use Rattle.attributes.specs.Meaning.{dieOffset, dieOffsetIn, parentOf, parentIn
 use Rattle.entries.specs.Entries.{entry, nameEntry}
 use Rattle.entries.specs.Series.{seriesStart, seriesEntry, entriesFrom, series, nameEntries, moved, entryStep}
 use Rattle.entries.specs.Facts.{entryDieOffset, entryParent}
-use Rattle.hashes.specs.Lists.{numbersFrom, filterb, takeWhile}
+use Rattle.reader.specs.Lists.{numbersFrom, filterb, takeWhile}
 use Rattle.hashes.specs.Table.{nthOf, storedStart, storedHash, bucketOf, namesFrom, runFrom, examinedFrom, fromStart, run, examined, storing}
 use Rattle.hashes.specs.Lookups.{findByBucket, findByHash, firstOr, nextInBucket, nextStoring, bucketStep, hashStep}
 use Rattle.p_cases.specs.CaseA.{caseA, stringsA, headerA, indexA, partsA, HeaderOfA, OpensA, PartsOfA, FitsA, UnitsOfA, StringsOfA, BytesOfA, AbbreviationsOfA, CursorsOfA, SeriesOfA, StepsOfA, FactsOfA, BucketsOfA, RunsOfA, BucketStepsOfA, HashOfA, HashStepsOfA, LentA}

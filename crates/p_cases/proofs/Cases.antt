@@ -10,7 +10,7 @@ use Rattle.index.specs.Layout.{wordBytes, hashBytes, sizes, placesFrom, place, 
 use Rattle.forms.specs.Forms.{asFlag, asUnsigned, asOffset, formValue}
 use Rattle.attributes.specs.Attributes.{values, kept, noAttribute, first}
 use Rattle.entries.specs.Entries.{entry, nameEntry, nameEntryHanded}
-use Rattle.hashes.specs.Lists.{numbersFrom, filterb, takeWhile, memberb}
+use Rattle.reader.specs.Lists.{numbersFrom, filterb, takeWhile, memberb}
 use Rattle.hashes.specs.Table.{nthOf, storedStart, storedHash, bucketOf, namesFrom, runFrom, fromStart, run, storing, namesOfHash}
 use Rattle.tables.specs.Check.{startAbove, anyAbove, isMissed, missedNames, verdict, tableCheck}
 use Rattle.p_cases.specs.CaseA.{caseA, indexA, secondStart}

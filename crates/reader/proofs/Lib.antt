@@ -4,4 +4,5 @@ pub mod ErrorLaws
 pub mod PartLaws
 pub mod NumberLaws
 pub mod ListingLaws
+pub mod ListLaws
 pub mod StepLaws

@@ -13,9 +13,9 @@ use Rattle.index.specs.declared.layout.NameIndex.{NameIndex}
 use Rattle.index.specs.declared.layout.Parts.{Parts}
 use Rattle.index.specs.Layout.{parts, Fits, fitted}
 use Rattle.index.proofs.LayoutLaws.{fitted-answered}
-use Rattle.hashes.specs.Lists.{numbersFrom, filterb, memberb}
+use Rattle.reader.specs.Lists.{numbersFrom, filterb, memberb}
 use Rattle.hashes.specs.Table.{nthOf, storedStart, storedHash, bucketOf, namesFrom, runFrom, fromStart, run}
-use Rattle.hashes.proofs.ListLaws.{filter-step, past-other}
+use Rattle.reader.proofs.ListLaws.{filter-step, past-other}
 use Rattle.hashes.proofs.TableLaws.{buckets-end, hashes-end, strings-inside, bucket-below}
 use Rattle.tables.specs.declared.Segment.{Segment}
 use Rattle.tables.specs.Segments.{followed, missesAt}

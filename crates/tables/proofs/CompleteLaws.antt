@@ -27,12 +27,12 @@ use Rattle.hashes.specs.declared.bucket.BucketIter.{BucketIter}
 use Rattle.hashes.specs.declared.hash.NameHashIter.{NameHashIter}
 use Rattle.hashes.specs.declared.hash.HashRead.{HashRead}
 use Rattle.hashes.specs.declared.hash.NameHashStep.{NameHashStep}
-use Rattle.hashes.specs.Lists.{numbersFrom, filterb, memberb}
+use Rattle.reader.specs.Lists.{numbersFrom, filterb, memberb}
 use Rattle.hashes.specs.Table.{nthOf, storedStart, storedHash, bucketOf, namesFrom, runFrom, fromStart, run, storing, namesOfHash, allStoring}
 use Rattle.hashes.specs.Lookups.{findByBucket, findByHash, hashStep}
 use Rattle.hashes.specs.Answers.{hashOutcome, hashStepOf}
 use Rattle.hashes.specs.Demand3.{hashAnswers, hashNames}
-use Rattle.hashes.proofs.ListLaws.{past-other, false-true, filter-step, filter-none, filter-later, member-filter, filter-member, member-numbers, no-members}
+use Rattle.reader.proofs.ListLaws.{past-other, false-true, filter-step, filter-none, filter-later, member-filter, filter-member, member-numbers, no-members}
 use Rattle.hashes.proofs.TableLaws.{bucket-below, bucket-itself, storing-step, of-run, hashes-inside}
 use Rattle.hashes.proofs.LookupLaws.{started, find-fits, find-answered, hash-answered, hash-lookups, hashes-have-end, steps-follow}
 use Rattle.tables.specs.declared.TableCheck.{TableCheck}

@@ -8,9 +8,9 @@ use native.Mathlib.Omega.{arith}
 use lib.Dec.{ltb, leb, eqb}
 use borrow.Author.Tests.{ltb-true, ltb-false, leb-true, leb-false, eqb-true, eqb-false, ne-eqb}
 use Rattle.index.specs.declared.layout.NameIndex.{NameIndex}
-use Rattle.hashes.specs.Lists.{memberb}
+use Rattle.reader.specs.Lists.{memberb}
 use Rattle.hashes.specs.Table.{bucketOf, runFrom, fromStart}
-use Rattle.hashes.proofs.ListLaws.{past-other}
+use Rattle.reader.proofs.ListLaws.{past-other}
 use Rattle.hashes.proofs.TableLaws.{bucket-below, in-run, of-run}
 use Rattle.tables.specs.declared.Segment.{Segment}
 use Rattle.tables.specs.Segments.{followed, missesAt}

@@ -9,7 +9,7 @@ use Rattle.reader.specs.Errors.{refusal}
 use Rattle.reader.specs.declared.endianity.RunTimeEndian.{RunTimeEndian}
 use Rattle.index.specs.declared.layout.NameIndex.{NameIndex}
 use Rattle.index.specs.Layout.{parts, fitted}
-use Rattle.hashes.specs.Lists.{numbersFrom, filterb, memberb}
+use Rattle.reader.specs.Lists.{numbersFrom, filterb, memberb}
 use Rattle.hashes.specs.Table.{storedStart, storedHash, bucketOf, namesFrom, run}
 use Rattle.tables.specs.declared.TableCheck.{TableCheck}
 

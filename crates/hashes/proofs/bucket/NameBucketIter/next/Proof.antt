@@ -8,7 +8,7 @@ use borrow.Author.Needs.{needs}
 use borrow.Author.Tests.{eq-eqb, le-leb, lt-leb, ne-eqb}
 use Rattle.hashes.specs.Lookups.{bucketStep, hashStep, nextInBucket, firstOr}
 use Rattle.hashes.specs.Table.{storedHash, examinedFrom, runFrom, namesFrom}
-use Rattle.hashes.specs.Lists.{takeWhile, numbersFrom}
+use Rattle.reader.specs.Lists.{takeWhile, numbersFrom}
 use Rattle.hashes.proofs.bucket.NameBucketIter.next.Statement.{statement}
 use Rattle.hashes.proofs.bucket.NameBucketIter.next.Tie as tie
 use Rattle.hashes.proofs.bucket.NameBucketIter.next.Reads as reads

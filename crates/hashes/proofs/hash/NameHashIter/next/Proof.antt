@@ -6,7 +6,7 @@ use borrow.Author.Needs.{needs}
 use borrow.Author.Tests.{le-leb, lt-leb}
 use Rattle.hashes.specs.Lookups.{bucketStep, hashStep, nextInBucket, firstOr}
 use Rattle.hashes.specs.Table.{storedHash, examinedFrom, runFrom, namesFrom}
-use Rattle.hashes.specs.Lists.{takeWhile, numbersFrom}
+use Rattle.reader.specs.Lists.{takeWhile, numbersFrom}
 use Rattle.hashes.proofs.hash.NameHashIter.next.Statement.{statement}
 use Rattle.hashes.proofs.hash.NameHashIter.next.Tie as tie
 use Rattle.hashes.proofs.hash.NameHashIter.next.Reads as reads

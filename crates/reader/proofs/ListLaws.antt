@@ -7,7 +7,7 @@ use native.Mathlib.Omega.{arith}
 use lib.ListN.{length, take}
 use lib.Dec.{ltb, eqb}
 use borrow.Author.Tests.{ltb-true, ltb-false, eqb-true, eqb-false, eq-eqb}
-use Rattle.hashes.specs.Lists.{numbersFrom, filterb, takeWhile, memberb}
+use Rattle.reader.specs.Lists.{numbersFrom, filterb, takeWhile, memberb}
 
 pub numbers-length : (k n : ℕ) → length (numbersFrom k n) ≡ n
 unfolding numbersFrom
