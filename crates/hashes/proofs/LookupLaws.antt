@@ -1,46 +1,41 @@
 -- Laws of the lookups: what `find_by_bucket` and `find_by_hash` give; and demand 3 for bucket and hash lookups.
-use Prim.Native.Nat.{ℕ, zero, suc, _+_, _-_, _*_, _%_, _≤_, _<_}
+use Prim.Native.Nat.{ℕ, zero, suc, _+_, _-_, _*_, _≤_, _<_}
 use mathlib.Core.Path.{_≡_, refl, sym, ap, _∙_}
 use mathlib.Core.Bool.{Bool, true, false, cond}
 use mathlib.Core.Logic.{_↔_}
-use mathlib.Core.List.{List, [], _∷_, map}
-use mathlib.Core.Option.{Option, some, none}
+use mathlib.Core.List.{List, [], _∷_}
+use mathlib.Core.Option.{Option, none}
 use native.Mathlib.Omega.{arith}
-use lib.ListN.{length, take, length-map}
+use lib.ListN.{length, length-map}
 use lib.Dec.{ltb, leb, eqb}
-use borrow.Author.Tests.{ltb-true, ltb-false, lt-ltb, le-ltb, lt-leb, eqb-true, eqb-false, eq-eqb}
-use Rattle.reader.specs.Outcome.{Outcome, answered, refused, _>>=_, _>>_, refuseIf}
+use borrow.Author.Tests.{ltb-true, ltb-false, lt-ltb, lt-leb, eqb-true, eqb-false}
+use Rattle.reader.specs.Outcome.{Outcome, answered, refused, _>>_}
 use Rattle.reader.specs.Errors.{longest}
 use Rattle.reader.specs.Parts.{partEnd, skipped}
 use Rattle.reader.specs.Numbers.{readNumber, numberAt}
-use Rattle.reader.specs.Steps.{Step, Linked, no-steps, step-then, keeping, hasEnd, upToEnd, ListsInOrder}
+use Rattle.reader.specs.Steps.{Linked, no-steps, step-then, hasEnd, ListsInOrder}
 use Rattle.reader.specs.declared.endianity.RunTimeEndian.{RunTimeEndian}
 use Rattle.reader.specs.declared.common.NameTableIndex.{NameTableIndex}
-use Rattle.reader.proofs.OutcomeLaws.{refused-answered, same-answer, bind-answered, cond-is}
+use Rattle.reader.proofs.OutcomeLaws.{refused-answered, same-answer, bind-answered}
 use Rattle.reader.proofs.PartLaws.{skip-answered, skip-inside, skip-past}
 use Rattle.reader.proofs.NumberLaws.{read-answered, number-read}
 use Rattle.reader.proofs.StepLaws.{Next, at-end, gives-item, steps-list}
 use Rattle.index.specs.declared.layout.NameIndex.{NameIndex}
-use Rattle.index.specs.declared.layout.Parts.{Parts}
-use Rattle.index.specs.Layout.{parts, place, Fits, fitted}
-use Rattle.index.proofs.LayoutLaws.{fitted-answered, fitted-fits, places-ascend}
+use Rattle.index.specs.Layout.{parts, Fits, fitted}
+use Rattle.index.proofs.LayoutLaws.{fitted-answered, fitted-fits}
 use Rattle.hashes.specs.declared.bucket.NameBucketIter.{NameBucketIter}
 use Rattle.hashes.specs.declared.bucket.BucketIter.{BucketIter}
 use Rattle.hashes.specs.declared.bucket.BucketName.{BucketName}
-use Rattle.hashes.specs.declared.bucket.BucketRead.{BucketRead}
-use Rattle.hashes.specs.declared.bucket.NameBucketStep.{NameBucketStep}
 use Rattle.hashes.specs.declared.hash.NameHashIter.{NameHashIter}
 use Rattle.hashes.specs.declared.hash.Found.{Found}
-use Rattle.hashes.specs.declared.hash.HashRead.{HashRead}
 use Rattle.hashes.specs.declared.hash.NameHashStep.{NameHashStep}
-use Rattle.reader.specs.Lists.{numbersFrom, filterb, takeWhile}
-use Rattle.hashes.specs.Table.{nthOf, storedStart, storedHash, bucketOf, namesFrom, runFrom, examinedFrom, fromStart, run, storing, namesOfHash}
+use Rattle.reader.specs.Lists.{filterb}
+use Rattle.hashes.specs.Table.{nthOf, storedStart, storedHash, bucketOf, runFrom, examinedFrom, fromStart, run, storing, namesOfHash}
 use Rattle.hashes.specs.Lookups.{bucketCursor, hashCursor, findByBucket, findByHash, firstOr, nextInBucket, nextStoring, hashed, bucketMoved, hashMoved, bucketStep, hashStep}
-use Rattle.hashes.specs.Answers.{bucketOutcome, bucketStepOf, hashOutcome, hashStepOf}
+use Rattle.hashes.specs.Answers.{bucketStepOf, hashStepOf}
 use Rattle.hashes.specs.Demand3.{bucketAnswers, hashAnswers, bucketNames, hashNames, BucketLookups, HashLookups}
 use Rattle.hashes.specs.Sanity.{NoneAtZero, BucketsEnd, HashesEnd, StepsFollow}
-use Rattle.reader.proofs.ListLaws.{numbers-length, while-length, filter-length}
-use Rattle.hashes.proofs.TableLaws.{hashes-end, buckets-end, strings-inside, names-step, run-step, next-in-step, storing-rest, run-length, hash-names-length}
+use Rattle.hashes.proofs.TableLaws.{hashes-end, buckets-end, strings-inside, run-step, next-in-step, storing-rest, run-length, hash-names-length}
 
 -- what stands for a stored start: none for 0, else the cursor before the first name
 unfoldable pub started : ℕ → ℕ → BucketIter

@@ -1,7 +1,7 @@
 -- The hash table of an index: document 01, "Buckets and hashes" and the words of demand 3; DWARF 5, section 6.1.1.4.5. `s` is the
 -- section; names and buckets are counted from 0.
 use Prim.Native.Nat.{ℕ, suc, _+_, _-_, _*_, _%_}
-use mathlib.Core.Bool.{Bool, cond}
+use mathlib.Core.Bool.{cond}
 use mathlib.Core.List.{List, []}
 use lib.ListN.{length, take}
 use lib.Dec.{eqb}

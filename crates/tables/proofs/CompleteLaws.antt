@@ -1,42 +1,38 @@
 -- Demand 3 for completeness: the check says complete exactly when the lookup of every hash lists all names that store it.
-use Prim.Native.Nat.{ℕ, zero, suc, _+_, _-_, _*_, _%_, _^_, _≤_, _<_}
+use Prim.Native.Nat.{ℕ, zero, suc, _+_, _-_, _*_, _^_, _≤_, _<_}
 use mathlib.Core.Path.{_≡_, refl, sym, ap, _∙_}
 use mathlib.Core.Bool.{Bool, true, false, not, cond}
-use mathlib.Core.Logic.{_↔_, ⊎-elim}
+use mathlib.Core.Logic.{⊎-elim}
 use mathlib.Core.List.{List, [], _∷_, map}
 use mathlib.Core.Option.{Option, some, none}
 use native.Mathlib.Omega.{arith}
-use native.Mathlib.Nat.{mod-eq-of-lt}
-use lib.ListN.{length, take, length-map}
+use lib.ListN.{length}
 use lib.Seq.{take-all}
 use lib.Dec.{ltb, leb, eqb}
-use borrow.Author.Tests.{ltb-true, ltb-false, lt-ltb, le-ltb, leb-true, leb-false, eqb-true, eqb-false, eq-eqb, ne-eqb, not-false}
-use Rattle.reader.specs.Outcome.{Outcome, answered, refused, _>>=_, _>>_, refuseIf}
+use borrow.Author.Tests.{ltb-true, ltb-false, le-ltb, leb-true, leb-false, eqb-true, eqb-false, eq-eqb, ne-eqb}
+use Rattle.reader.specs.Outcome.{Outcome, answered, refused, refuseIf}
 use Rattle.reader.specs.Errors.{longest}
-use Rattle.reader.specs.Numbers.{Bytes, numberAt}
-use Rattle.reader.specs.Steps.{Linked, hasEnd, upToEnd, ListsInOrder}
+use Rattle.reader.specs.Numbers.{Bytes}
+use Rattle.reader.specs.Steps.{Linked, hasEnd, upToEnd}
 use Rattle.reader.specs.declared.endianity.RunTimeEndian.{RunTimeEndian}
 use Rattle.reader.specs.declared.common.NameTableIndex.{NameTableIndex}
-use Rattle.reader.proofs.OutcomeLaws.{refused-answered, same-answer, bind-answered, then-answered, passed, cond-is}
+use Rattle.reader.proofs.OutcomeLaws.{same-answer, bind-answered, then-answered, passed, cond-is}
 use Rattle.reader.proofs.NumberLaws.{number-read, read-below}
 use Rattle.index.specs.declared.layout.NameIndex.{NameIndex}
-use Rattle.index.specs.declared.layout.Parts.{Parts}
 use Rattle.index.specs.Layout.{parts, Fits, fitted}
 use Rattle.index.proofs.LayoutLaws.{fitted-answered, fitted-fits}
-use Rattle.hashes.specs.declared.bucket.BucketIter.{BucketIter}
 use Rattle.hashes.specs.declared.hash.NameHashIter.{NameHashIter}
 use Rattle.hashes.specs.declared.hash.HashRead.{HashRead}
 use Rattle.hashes.specs.declared.hash.NameHashStep.{NameHashStep}
 use Rattle.reader.specs.Lists.{numbersFrom, filterb, memberb}
 use Rattle.hashes.specs.Table.{nthOf, storedStart, storedHash, bucketOf, namesFrom, runFrom, fromStart, run, storing, namesOfHash, allStoring}
-use Rattle.hashes.specs.Lookups.{findByBucket, findByHash, hashStep}
+use Rattle.hashes.specs.Lookups.{findByHash, hashStep}
 use Rattle.hashes.specs.Answers.{hashOutcome, hashStepOf}
 use Rattle.hashes.specs.Demand3.{hashAnswers, hashNames}
 use Rattle.reader.proofs.ListLaws.{past-other, false-true, filter-step, filter-none, filter-later, member-filter, filter-member, member-numbers, no-members}
 use Rattle.hashes.proofs.TableLaws.{bucket-below, bucket-itself, storing-step, of-run, hashes-inside}
 use Rattle.hashes.proofs.LookupLaws.{started, find-fits, find-answered, hash-answered, hash-lookups, hashes-have-end, steps-follow}
-use Rattle.tables.specs.declared.TableCheck.{TableCheck}
-use Rattle.tables.specs.Check.{Checked, no-table, complete, incomplete, checkOutcome, startAbove, anyAbove, isMissed, missedNames, verdict, tableCheck}
+use Rattle.tables.specs.Check.{no-table, complete, incomplete, startAbove, anyAbove, isMissed, missedNames, verdict, tableCheck}
 use Rattle.tables.specs.Demand3.{ListsAll, CompleteExactly}
 
 -- Where all names that store the hash belong to the run from a number on, the run's names that store it are all names from there on that do.

@@ -1,12 +1,12 @@
 -- Laws of segments: what the segment of a name says, and that a bucket's run reaches a name exactly if it starts in the name's segment, at
 -- the name or before it.
-use Prim.Native.Nat.{ℕ, suc, _+_, _-_, _≤_, _<_}
-use mathlib.Core.Path.{_≡_, refl, sym, ap, _∙_}
+use Prim.Native.Nat.{ℕ, _+_, _-_, _≤_, _<_}
+use mathlib.Core.Path.{_≡_, refl, sym, _∙_}
 use mathlib.Core.Bool.{Bool, true, false, cond}
-use mathlib.Core.List.{List, []}
+use mathlib.Core.List.{[]}
 use native.Mathlib.Omega.{arith}
 use lib.Dec.{ltb, leb, eqb}
-use borrow.Author.Tests.{ltb-true, ltb-false, leb-true, leb-false, eqb-true, eqb-false, ne-eqb}
+use borrow.Author.Tests.{ltb-true, ltb-false, leb-true, leb-false, eqb-true, eqb-false}
 use Rattle.index.specs.declared.layout.NameIndex.{NameIndex}
 use Rattle.reader.specs.Lists.{memberb}
 use Rattle.hashes.specs.Table.{bucketOf, runFrom, fromStart}

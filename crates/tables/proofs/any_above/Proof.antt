@@ -7,12 +7,9 @@ use Rattle.hashes.specs.Table.{nthOf}
 use Rattle.tables.proofs.CheckLaws.{aboveFrom, above-first, above-step}
 use borrow.Author.Needs.{needs}
 use borrow.Author.Tests.{le-ltb, lt-ltb}
-use Rattle.tables.specs.Check.{anyAbove, startAbove}
+use Rattle.tables.specs.Check.{anyAbove}
 use Rattle.tables.proofs.any_above.Statement.{statement}
 use Rattle.tables.proofs.any_above.Tie as tie
-use Rattle.tables.proofs.any_above.Reads as reads
-use Rattle.tables.proofs.any_above.Lts as lts
-use Rattle.hashes.proofs.nth_u32.Reads as nth-u32-reads
 
 abbrev Inv-loop : tie.InvT-loop
 Inv-loop order section starts buckets names last bucket₀ bucket = (last ≡ names + 1) × (anyAbove names (nthOf order section starts) buckets ≡ aboveFrom names (nthOf order section starts) buckets bucket)
@@ -20,23 +17,18 @@ Inv-loop order section starts buckets names last bucket₀ bucket = (last ≡ na
 abbrev μ-loop : tie.MeasureT-loop
 μ-loop order section starts buckets names last bucket₀ bucket = buckets - bucket
 
--- src/lib.rt:47:16
 add-last : tie.Need-add-last Inv-loop μ-loop
 add-last c = search needs
 
--- src/lib.rt:49:5
 loop-holds : tie.Need-loop-holds Inv-loop μ-loop
 loop-holds c = (refl, above-first _ _ _)
 
--- src/lib.rt:50:21
 nth-u32-requires : tie.Need-nth-u32-requires Inv-loop μ-loop
 nth-u32-requires c κs = search needs
 
--- src/lib.rt:50:21
 cast-start : tie.Need-cast-start Inv-loop μ-loop
 cast-start c = search needs
 
--- src/lib.rt:52:13
 returns : tie.Need-returns Inv-loop μ-loop
 returns c =
     rw (
@@ -48,15 +40,12 @@ returns c =
       lt-ltb _ _ (c .if1 .taken),
     )
 
--- src/lib.rt:54:18
 add-bucket : tie.Need-add-bucket Inv-loop μ-loop
 add-bucket c = search needs
 
--- src/lib.rt:49:5
 loop-less : tie.Need-loop-less Inv-loop μ-loop
 loop-less c = omega arith
 
--- src/lib.rt:49:5
 loop-again : tie.Need-loop-again Inv-loop μ-loop
 loop-again c = (
   c .before .before .before .loop .inv .0,
@@ -70,7 +59,6 @@ loop-again c = (
   ),
 )
 
--- src/lib.rt:43:1
 returns-2 : tie.Need-returns-2 Inv-loop μ-loop
 returns-2 c =
     rw (

@@ -7,17 +7,10 @@ use Rattle.hashes.proofs.TableLaws.{starts-within}
 use Rattle.tables.proofs.SegmentLaws.{misses-most}
 use Rattle.tables.proofs.CheckLaws.{Counting, counting-first, hash-inside, start-inside, counting-next, counting-last}
 use borrow.Author.Needs.{needs}
-use borrow.Author.Tests.{eq-eqb, le-ltb, lt-ltb, ne-eqb}
-use Rattle.tables.specs.Check.{tableCheck, missedNames, verdict, isMissed}
+use borrow.Author.Tests.{eq-eqb, ne-eqb}
+use Rattle.tables.specs.Check.{tableCheck, verdict}
 use Rattle.tables.proofs.check_table.Statement.{statement}
 use Rattle.tables.proofs.check_table.Tie as tie
-use Rattle.tables.proofs.check_table.Reads as reads
-use Rattle.tables.proofs.check_table.Lts as lts
-use Rattle.hashes.proofs.nth_u32.Reads as nth-u32-reads
-use Rattle.index.proofs.fit.Reads as fit-reads
-use Rattle.tables.proofs.any_above.Reads as any-above-reads
-use Rattle.tables.proofs.follow.Reads as follow-reads
-use Rattle.tables.proofs.misses.Reads as misses-reads
 
 abbrev Inv-loop : tie.InvT-loop
 Inv-loop order section index starts hashes segment₀ missed₀ name₀ segment missed name = Counting order section index starts hashes segment missed name
@@ -25,19 +18,15 @@ Inv-loop order section index starts hashes segment₀ missed₀ name₀ segment 
 abbrev μ-loop : tie.MeasureT-loop
 μ-loop order section index starts hashes segment₀ missed₀ name₀ segment missed name = index .«name_count» - name
 
--- src/lib.rt:101:19
 fit-requires : tie.Need-fit-requires Inv-loop μ-loop
 fit-requires c κs = search needs
 
--- src/lib.rt:102:26
 enum-known-p : tie.Need-enum-known-p Inv-loop μ-loop
 enum-known-p c = search needs
 
--- src/lib.rt:103:28
 enum-known-e : tie.Need-enum-known-e Inv-loop μ-loop
 enum-known-e c = search needs
 
--- src/lib.rt:103:34
 returns : tie.Need-returns Inv-loop μ-loop
 unfolding tableCheck verdict storedStart
 returns c =
@@ -46,7 +35,6 @@ returns c =
       c .before .e .given .1,
     )
 
--- src/lib.rt:108:9
 returns-2 : tie.Need-returns-2 Inv-loop μ-loop
 unfolding tableCheck verdict storedStart
 returns-2 c =
@@ -56,11 +44,9 @@ returns-2 c =
       eq-eqb _ _ (c .if1 .taken),
     )
 
--- src/lib.rt:110:8
 any-above-requires : tie.Need-any-above-requires Inv-loop μ-loop
 any-above-requires c κs = starts-within _ _ _ (rw (c .before .before .before .p .given .1) at (c .before .before .before .before .before .fit .ensures))
 
--- src/lib.rt:111:9
 returns-3 : tie.Need-returns-3 Inv-loop μ-loop
 unfolding tableCheck verdict storedStart
 returns-3 c =
@@ -72,38 +58,30 @@ returns-3 c =
       c .if2 .taken,
     )
 
--- src/lib.rt:120:5
 loop-holds : tie.Need-loop-holds Inv-loop μ-loop
 loop-holds c = counting-first _ _ _ _ (rw (c .before .before .before .before .before .p .given .1) at (c .before .before .before .before .before .before .before .fit .ensures)) (c .before .before .if1 .left)
 
--- src/lib.rt:121:13
 nth-u32-requires : tie.Need-nth-u32-requires Inv-loop μ-loop
 nth-u32-requires c κs = hash-inside _ _ _ _ _ _ _ _ (c .before .before .loop .inv) (c .if3 .taken)
 
--- src/lib.rt:122:9
 follow-requires : tie.Need-follow-requires Inv-loop μ-loop
 follow-requires c κs = start-inside _ _ _ _ _ _ _ _ (c .before .before .before .loop .inv) _
 
--- src/lib.rt:123:27
 misses-requires : tie.Need-misses-requires Inv-loop μ-loop
 misses-requires c κs = search needs
 
--- src/lib.rt:123:18
 add-missed : tie.Need-add-missed Inv-loop μ-loop
 add-missed c =
     let most = misses-most _ _ _ (c .misses .ensures) in
     let least = c .before .before .before .before .before .loop .inv .least in
     omega arith
 
--- src/lib.rt:124:16
 add-name : tie.Need-add-name Inv-loop μ-loop
 add-name c = search needs
 
--- src/lib.rt:120:5
 loop-less : tie.Need-loop-less Inv-loop μ-loop
 loop-less c = omega arith
 
--- src/lib.rt:120:5
 loop-again : tie.Need-loop-again Inv-loop μ-loop
 loop-again c =
     rw (
@@ -113,7 +91,6 @@ loop-again c =
     )
     (counting-next _ _ _ _ _ _ _ _ (c .before .before .before .before .before .loop .inv) (c .before .before .before .if3 .taken))
 
--- src/lib.rt:127:9
 returns-4 : tie.Need-returns-4 Inv-loop μ-loop
 unfolding tableCheck verdict storedStart
 returns-4 c =
@@ -127,7 +104,6 @@ returns-4 c =
       eq-eqb _ _ (c .if4 .taken),
     )
 
--- src/lib.rt:98:1
 returns-5 : tie.Need-returns-5 Inv-loop μ-loop
 unfolding tableCheck verdict storedStart
 returns-5 c =

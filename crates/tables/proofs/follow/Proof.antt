@@ -5,16 +5,10 @@ use borrow.Author.Tests.{eq-eqb, ne-eqb}
 use Rattle.tables.specs.Segments.{followed}
 use Rattle.tables.proofs.follow.Statement.{statement}
 use Rattle.tables.proofs.follow.Tie as tie
-use Rattle.tables.proofs.follow.Reads as reads
-use Rattle.tables.proofs.follow.Lts as lts
-use Rattle.hashes.proofs.bucket_of.Reads as bucket-of-reads
-use Rattle.hashes.proofs.nth_u32.Reads as nth-u32-reads
 
--- src/lib.rt:72:9
 bucket-of-requires : tie.Need-bucket-of-requires
 bucket-of-requires c κs = search needs
 
--- src/lib.rt:74:9
 returns : tie.Need-returns
 unfolding followed
 returns c =
@@ -23,11 +17,9 @@ returns c =
       eq-eqb _ _ (c .if1 .taken),
     )
 
--- src/lib.rt:79:16
 nth-u32-requires : tie.Need-nth-u32-requires
 nth-u32-requires c κs = search needs
 
--- src/lib.rt:60:1
 returns-2 : tie.Need-returns-2
 unfolding followed
 returns-2 c =

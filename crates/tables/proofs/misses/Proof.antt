@@ -5,21 +5,16 @@ use borrow.Author.Tests.{le-leb, le-ltb, lt-leb, lt-ltb}
 use Rattle.tables.specs.Segments.{missesAt}
 use Rattle.tables.proofs.misses.Statement.{statement}
 use Rattle.tables.proofs.misses.Tie as tie
-use Rattle.tables.proofs.misses.Reads as reads
-use Rattle.tables.proofs.misses.Lts as lts
 
--- src/lib.rt:88:9
 returns : tie.Need-returns
 unfolding missesAt
 returns c =
     rw
     (le-leb _ _ (c .if1 .taken))
 
--- src/lib.rt:90:15
 sub-if2 : tie.Need-sub-if2
 sub-if2 c = search needs
 
--- src/lib.rt:91:9
 returns-2 : tie.Need-returns-2
 unfolding missesAt
 returns-2 c =
@@ -28,7 +23,6 @@ returns-2 c =
       lt-ltb _ _ (c .if2 .taken),
     )
 
--- src/lib.rt:84:1
 returns-3 : tie.Need-returns-3
 unfolding missesAt
 returns-3 c =

@@ -5,21 +5,16 @@ use borrow.Author.Tests.{eq-eqb, ne-eqb}
 use Rattle.hashes.specs.Table.{bucketOf}
 use Rattle.hashes.proofs.bucket.bucket_of.Statement.{statement}
 use Rattle.hashes.proofs.bucket.bucket_of.Tie as tie
-use Rattle.hashes.proofs.bucket.bucket_of.Reads as reads
-use Rattle.hashes.proofs.bucket.bucket_of.Lts as lts
 
--- src/bucket.rt:64:9
 returns : tie.Need-returns
 unfolding bucketOf
 returns c =
     rw
     (eq-eqb _ _ (c .if1 .taken))
 
--- src/bucket.rt:66:5
 rem-result : tie.Need-rem-result
 rem-result c = search needs
 
--- src/bucket.rt:60:1
 returns-2 : tie.Need-returns-2
 unfolding bucketOf
 returns-2 c =

@@ -5,25 +5,16 @@ use borrow.Author.Tests.{eq-eqb, ne-eqb}
 use Rattle.hashes.specs.Lookups.{findByBucket}
 use Rattle.hashes.proofs.bucket.find_by_bucket.Statement.{statement}
 use Rattle.hashes.proofs.bucket.find_by_bucket.Tie as tie
-use Rattle.hashes.proofs.bucket.find_by_bucket.Reads as reads
-use Rattle.hashes.proofs.bucket.find_by_bucket.Lts as lts
-use Rattle.index.proofs.fit.Reads as fit-reads
-use Rattle.reader.proofs.read_u32.Reads as read-u32-reads
-use Rattle.reader.proofs.skip.Reads as skip-reads
 
--- src/bucket.rt:79:19
 fit-requires : tie.Need-fit-requires
 fit-requires c κs = search needs
 
--- src/bucket.rt:80:26
 enum-known-p : tie.Need-enum-known-p
 enum-known-p c = search needs
 
--- src/bucket.rt:81:28
 enum-known-e : tie.Need-enum-known-e
 enum-known-e c = search needs
 
--- src/bucket.rt:81:34
 returns : tie.Need-returns
 unfolding findByBucket
 returns c =
@@ -32,23 +23,18 @@ returns c =
       c .before .e .given .1,
     )
 
--- src/bucket.rt:84:28
 mul-skip : tie.Need-mul-skip
 mul-skip c = search needs
 
--- src/bucket.rt:84:23
 skip-requires : tie.Need-skip-requires
 skip-requires c κs = search needs
 
--- src/bucket.rt:85:21
 enum-known-next : tie.Need-enum-known-next
 enum-known-next c = search needs
 
--- src/bucket.rt:86:26
 enum-known-e-2 : tie.Need-enum-known-e-2
 enum-known-e-2 c = search needs
 
--- src/bucket.rt:86:32
 returns-2 : tie.Need-returns-2
 unfolding findByBucket
 returns-2 c =
@@ -59,19 +45,15 @@ returns-2 c =
       c .before .e2 .given .1,
     )
 
--- src/bucket.rt:88:23
 read-u32-requires : tie.Need-read-u32-requires
 read-u32-requires c κs = search needs
 
--- src/bucket.rt:89:24
 enum-known-r : tie.Need-enum-known-r
 enum-known-r c = search needs
 
--- src/bucket.rt:90:26
 enum-known-e-3 : tie.Need-enum-known-e-3
 enum-known-e-3 c = search needs
 
--- src/bucket.rt:90:32
 returns-3 : tie.Need-returns-3
 unfolding findByBucket
 returns-3 c =
@@ -84,7 +66,6 @@ returns-3 c =
       c .before .e3 .given .1,
     )
 
--- src/bucket.rt:93:9
 returns-4 : tie.Need-returns-4
 unfolding findByBucket
 returns-4 c =
@@ -98,31 +79,24 @@ returns-4 c =
       eq-eqb _ _ (c .if1 .taken),
     )
 
--- src/bucket.rt:95:17
 sub-first : tie.Need-sub-first
 sub-first c = search needs
 
--- src/bucket.rt:96:21
 cast-skip : tie.Need-cast-skip
 cast-skip c = search needs
 
--- src/bucket.rt:96:16
 mul-skip-2 : tie.Need-mul-skip-2
 mul-skip-2 c = search needs
 
--- src/bucket.rt:96:11
 skip-requires-2 : tie.Need-skip-requires-2
 skip-requires-2 c κs = search needs
 
--- src/bucket.rt:98:31
 enum-told : tie.Need-enum-told
 enum-told c = search needs
 
--- src/bucket.rt:101:26
 enum-known-e-4 : tie.Need-enum-known-e-4
 enum-known-e-4 c = search needs
 
--- src/bucket.rt:71:1
 returns-5 : tie.Need-returns-5
 unfolding findByBucket
 returns-5 c =
@@ -138,7 +112,6 @@ returns-5 c =
       c .enum-told .given .1,
     )
 
--- src/bucket.rt:71:1
 returns-6 : tie.Need-returns-6
 unfolding findByBucket
 returns-6 c =

@@ -1,35 +1,23 @@
 -- `hashes::bucket::NameBucketIter::next` meets its contract: each answer is the definition's, by the calls and the tests that led there.
 -- Assumes nothing.
-use mathlib.Core.Path.{sym}
 use native.Mathlib.Omega.{arith}
-use denote.Ref.{now}
 use Rattle.hashes.proofs.TableLaws.{next-in-step, hashes-within}
 use borrow.Author.Needs.{needs}
 use borrow.Author.Tests.{eq-eqb, le-leb, lt-leb, ne-eqb}
-use Rattle.hashes.specs.Lookups.{bucketStep, hashStep, nextInBucket, firstOr}
-use Rattle.hashes.specs.Table.{storedHash, examinedFrom, runFrom, namesFrom}
-use Rattle.reader.specs.Lists.{takeWhile, numbersFrom}
+use Rattle.hashes.specs.Lookups.{bucketStep}
+use Rattle.hashes.specs.Table.{storedHash}
 use Rattle.hashes.proofs.bucket.NameBucketIter.next.Statement.{statement}
 use Rattle.hashes.proofs.bucket.NameBucketIter.next.Tie as tie
-use Rattle.hashes.proofs.bucket.NameBucketIter.next.Reads as reads
-use Rattle.hashes.proofs.bucket.NameBucketIter.next.Lts as lts
-use Rattle.hashes.proofs.bucket.bucket_of.Reads as bucket-of-reads
-use Rattle.hashes.proofs.bucket.nth_u32.Reads as nth-u32-reads
-use Rattle.index.proofs.fit.Reads as fit-reads
 
--- src/bucket.rt:113:23
 fit-requires : tie.Need-fit-requires
 fit-requires c κs = search needs
 
--- src/bucket.rt:114:30
 enum-known-p : tie.Need-enum-known-p
 enum-known-p c = search needs
 
--- src/bucket.rt:115:32
 enum-known-e : tie.Need-enum-known-e
 enum-known-e c = search needs
 
--- src/bucket.rt:115:38
 returns : tie.Need-returns
 unfolding bucketStep storedHash
 returns c =
@@ -38,7 +26,6 @@ returns c =
       c .before .e .given .1,
     )
 
--- src/bucket.rt:118:13
 returns-2 : tie.Need-returns-2
 unfolding bucketStep storedHash
 returns-2 c =
@@ -48,7 +35,6 @@ returns-2 c =
       le-leb _ _ (c .if1 .taken),
     )
 
--- src/bucket.rt:121:13
 returns-3 : tie.Need-returns-3
 unfolding bucketStep storedHash
 returns-3 c =
@@ -60,20 +46,16 @@ returns-3 c =
       le-leb _ _ (c .if2 .taken),
     )
 
--- src/bucket.rt:123:13
 nth-u32-requires : tie.Need-nth-u32-requires
 nth-u32-requires c κs =
     omega (arith, hashes-within _ _ _ (rw (c .before .before .before .before .before .before .p .given .1) at (c .before .before .before .before .before .before .before .before .fit .ensures)) (omega arith))
 
--- src/bucket.rt:125:46
 add-next : tie.Need-add-next
 add-next c = search needs
 
--- src/bucket.rt:128:12
 bucket-of-requires : tie.Need-bucket-of-requires
 bucket-of-requires c κs = search needs
 
--- src/bucket.rt:129:13
 returns-4 : tie.Need-returns-4
 unfolding bucketStep storedHash
 returns-4 c =
@@ -88,7 +70,6 @@ returns-4 c =
       ne-eqb _ _ (c .if3 .taken),
     )
 
--- src/bucket.rt:108:5
 returns-5 : tie.Need-returns-5
 unfolding bucketStep storedHash
 returns-5 c =

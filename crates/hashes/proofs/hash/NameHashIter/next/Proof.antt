@@ -4,30 +4,20 @@ use native.Mathlib.Omega.{arith}
 use Rattle.hashes.proofs.TableLaws.{hashes-within}
 use borrow.Author.Needs.{needs}
 use borrow.Author.Tests.{le-leb, lt-leb}
-use Rattle.hashes.specs.Lookups.{bucketStep, hashStep, nextInBucket, firstOr}
-use Rattle.hashes.specs.Table.{storedHash, examinedFrom, runFrom, namesFrom}
-use Rattle.reader.specs.Lists.{takeWhile, numbersFrom}
+use Rattle.hashes.specs.Lookups.{hashStep}
+use Rattle.hashes.specs.Table.{storedHash}
 use Rattle.hashes.proofs.hash.NameHashIter.next.Statement.{statement}
 use Rattle.hashes.proofs.hash.NameHashIter.next.Tie as tie
-use Rattle.hashes.proofs.hash.NameHashIter.next.Reads as reads
-use Rattle.hashes.proofs.hash.NameHashIter.next.Lts as lts
-use Rattle.hashes.proofs.hash.cursor_at.Reads as cursor-at-reads
-use Rattle.hashes.proofs.hash.pass_over.Reads as pass-over-reads
-use Rattle.index.proofs.fit.Reads as fit-reads
 
--- src/hash.rt:106:23
 fit-requires : tie.Need-fit-requires
 fit-requires c κs = search needs
 
--- src/hash.rt:107:30
 enum-known-p : tie.Need-enum-known-p
 enum-known-p c = search needs
 
--- src/hash.rt:108:32
 enum-known-e : tie.Need-enum-known-e
 enum-known-e c = search needs
 
--- src/hash.rt:108:38
 returns : tie.Need-returns
 unfolding hashStep storedHash
 returns c =
@@ -36,15 +26,12 @@ returns c =
       c .before .e .given .1,
     )
 
--- src/hash.rt:111:30
 enum-known-held : tie.Need-enum-known-held
 enum-known-held c = search needs
 
--- src/hash.rt:112:33
 enum-told : tie.Need-enum-told
 enum-told c = search needs
 
--- src/hash.rt:112:33
 returns-2 : tie.Need-returns-2
 unfolding hashStep storedHash
 returns-2 c =
@@ -54,7 +41,6 @@ returns-2 c =
       c .enum-told .given .1,
     )
 
--- src/hash.rt:117:13
 returns-3 : tie.Need-returns-3
 unfolding hashStep storedHash
 returns-3 c =
@@ -65,27 +51,21 @@ returns-3 c =
       le-leb _ _ (c .if1 .taken),
     )
 
--- src/hash.rt:119:15
 pass-over-requires : tie.Need-pass-over-requires
 pass-over-requires c κs = hashes-within _ _ _ (rw (c .before .before .before .before .before .before .before .p .given .1) at (c .before .before .before .before .before .before .before .before .before .fit .ensures)) (omega arith)
 
--- src/hash.rt:128:25
 enum-known-name : tie.Need-enum-known-name
 enum-known-name c = search needs
 
--- src/hash.rt:129:58
 cursor-at-requires : tie.Need-cursor-at-requires
 cursor-at-requires c κs = search needs
 
--- src/hash.rt:131:24
 enum-known-next : tie.Need-enum-known-next
 enum-known-next c = search needs
 
--- src/hash.rt:131:51
 cursor-at-requires-2 : tie.Need-cursor-at-requires-2
 cursor-at-requires-2 c κs = search needs
 
--- src/hash.rt:101:5
 returns-4 : tie.Need-returns-4
 unfolding hashStep storedHash
 returns-4 c =
@@ -99,7 +79,6 @@ returns-4 c =
       ← c .cursor-at .ensures,
     )
 
--- src/hash.rt:101:5
 returns-5 : tie.Need-returns-5
 unfolding hashStep storedHash
 returns-5 c =
