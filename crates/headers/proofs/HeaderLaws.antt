@@ -8,13 +8,15 @@ use mathlib.Core.Option.{Option, some, none, Option·none-ne-some, Option·some-
 use native.Mathlib.Omega.{arith}
 use lib.ListN.{length}
 use lib.Seq.{slice}
-use lib.Dec.{ltb, eqb}
-use borrow.Author.Tests.{le-ltb, eqb-false}
+use lib.Dec.{ltb, leb, eqb}
+use borrow.Author.Tests.{le-ltb, le-leb, leb-true, leb-false, eqb-true, eqb-false}
 use Rattle.reader.specs.Outcome.{Outcome, answered, refused, _>>=_, _>>_, demand, refuseIf}
 use Rattle.reader.specs.Errors.{longest}
 use Rattle.reader.specs.Parts.{partEnd, skipped, cut}
 use Rattle.reader.specs.Numbers.{Read, readNumber, initialLength}
 use Rattle.reader.specs.Steps.{Step, keeping, no-steps, step-then, hasEnd}
+use Rattle.reader.specs.Listing.{Advances}
+use Rattle.reader.proofs.ListingLaws.{listing-step}
 use Rattle.reader.specs.declared.endianity.RunTimeEndian.{RunTimeEndian}
 use Rattle.reader.proofs.OutcomeLaws.{refused-answered, same-answer, bind-answered, then-answered, cond-is, bind-same, bind-both}
 use Rattle.reader.proofs.PartLaws.{skip-answered, cut-answered, skip-part, slice-from}
@@ -27,8 +29,8 @@ use Rattle.headers.specs.declared.header.NameIndexHeader.{NameIndexHeade
 use Rattle.headers.specs.declared.headers.NameIndexHeaderIter.{NameIndexHeaderIter}
 use Rattle.headers.specs.Header.{headerCut, counts, padding, augmentation, headerBody, header}
 use Rattle.headers.specs.Answers.{headerStepOf}
-use Rattle.headers.specs.Headers.{afterHeader, headerStep}
-use Rattle.headers.specs.Sanity.{PaddingFills, PaddingLeast, HeadersFit, StepsForward, WalksEnd, BodiesInPart}
+use Rattle.headers.specs.Headers.{afterHeader, headerStep, headerAt, headersFrom}
+use Rattle.headers.specs.Sanity.{PaddingFills, PaddingLeast, HeadersFit, StepsForward, WalksEnd, HeadersUnfold, BodiesInPart}
 
 pub padding-fills : PaddingFills
 unfolding padding
@@ -162,6 +164,47 @@ pub step-moves : (order : RunTimeEndian) (s : List ℕ) (c : NameIndexHeaderIter
 step-moves order s c short fits =
     rw (step-by order s c, le-ltb longest (length s) short, le-ltb (length s) (c .at) fits)
     (moves-by (eqb (c .at) (length s)) (header order s (c .at)) order s c fits refl refl)
+
+-- the header at a place was read there
+header-there : (order : RunTimeEndian) (s : List ℕ) (at : ℕ) (h : NameIndexHeader) → headerAt order s at ≡ answered (some h) → header order s at ≡ answered h
+unfolding headerAt
+header-there order s at h = other (leb (length s) at)
+  where
+    other : (t : Bool) → cond t (answered none) (header order s at >>= λ h. answered (some h)) ≡ answered (some h) → header order s at ≡ answered h
+    other true e = absurd (Option·none-ne-some _ (same-answer e))
+    other false e =
+        let (g, read, same) = bind-answered (header order s at) _ (some h) e in
+        read ∙ ap (λ h. answered h) (Option·some-injective _ _ (same-answer same))
+
+no-header : (order : RunTimeEndian) (s : List ℕ) (at : ℕ) → length s ≤ at → headerAt order s at ≡ answered none
+unfolding headerAt
+no-header order s at h = rw (le-leb (length s) at h)
+
+-- headers are read forward, and end with the section
+headers-advance : (order : RunTimeEndian) (s : List ℕ) → Advances (headerAt order s) (λ h. h .content .end) (length s)
+headers-advance order s = record {
+  forward = λ at h read.
+      let (ahead, begins, inside) = header-fits order s at h (header-there order s at h read) in
+      (ahead, inside);
+  none-at-stop = no-header order s;
+}
+
+pub headers-step : HeadersUnfold
+unfolding headersFrom
+headers-step order s at = listing-step (headerAt order s) (λ h. h .content .end) (length s) (headers-advance order s) at
+
+-- the step of a cursor that fits, by the header at its place
+pub header-step-at : (order : RunTimeEndian) (s : List ℕ) (c : NameIndexHeaderIter) → length s ≤ longest → c .at ≤ length s
+    → headerStep order s c ≡ cond (leb (length s) (c .at)) (record { answer = answered none; cursor = c }) (afterHeader s (header order s (c .at)))
+unfolding headerStep
+header-step-at order s c short fits = rw (le-ltb longest (length s) short, le-ltb (length s) (c .at) fits) (tested (eqb (c .at) (length s)) (leb (length s) (c .at)) refl refl)
+  where
+    tested : (t u : Bool) → eqb (c .at) (length s) ≡ t → leb (length s) (c .at) ≡ u
+        → cond t (record { answer = answered none; cursor = c }) (afterHeader s (header order s (c .at))) ≡ cond u (record { answer = answered none; cursor = c }) (afterHeader s (header order s (c .at)))
+    tested true true e f = refl
+    tested true false e f = absurd (omega (arith, eqb-true (c .at) (length s) e, leb-false (length s) (c .at) f))
+    tested false true e f = let above = leb-true (length s) (c .at) f in absurd (eqb-false (c .at) (length s) e (omega arith))
+    tested false false e f = refl
 
 -- a walk ends, by its steps one at a time
 pub walks-end : WalksEnd

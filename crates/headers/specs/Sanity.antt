@@ -10,13 +10,14 @@ use lib.Seq.{slice}
 use Rattle.reader.specs.Outcome.{answered}
 use Rattle.reader.specs.Errors.{longest}
 use Rattle.reader.specs.Steps.{Linked, hasEnd}
+use Rattle.reader.specs.Listing.{listed}
 use Rattle.reader.specs.declared.endianity.RunTimeEndian.{RunTimeEndian}
 use Rattle.headers.specs.declared.header.HeaderCut.{HeaderCut}
 use Rattle.headers.specs.declared.header.NameIndexHeader.{NameIndexHeader}
 use Rattle.headers.specs.declared.headers.NameIndexHeaderIter.{NameIndexHeaderIter}
 use Rattle.headers.specs.declared.headers.HeaderStep.{HeaderStep}
 use Rattle.headers.specs.Header.{padding, headerBody, header}
-use Rattle.headers.specs.Headers.{headerStep}
+use Rattle.headers.specs.Headers.{headerStep, headerAt, headersFrom}
 use Rattle.headers.specs.Answers.{headerStepOf}
 
 -- the padding brings a size to a multiple of 4, and no smaller number does
@@ -44,6 +45,10 @@ abbrev pub WalksEnd : Type 0
 WalksEnd =
     (order : RunTimeEndian) (s : List ℕ) (c : NameIndexHeaderIter) (rs : List HeaderStep) → length s ≤ longest → c .at ≤ length s
     → Linked headerStepOf (headerStep order s) c rs → length s - c .at < length rs → hasEnd (map (λ r. headerStepOf r .answer) rs) ≡ true
+
+-- the headers from a place on are the header there, and those from the place where its index ends
+abbrev pub HeadersUnfold : Type 0
+HeadersUnfold = (order : RunTimeEndian) (s : List ℕ) (at : ℕ) → headersFrom order s at ≡ listed (headerAt order s at) λ h. headersFrom order s (h .content .end)
 
 -- the fields of a header depend on the bytes of its own part alone
 abbrev pub BodiesInPart : Type 0

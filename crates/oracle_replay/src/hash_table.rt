@@ -1,5 +1,7 @@
 // The hash table of an index: the names of each bucket, the names that store a hash, and the table check.
 use crate::line;
+use crate::tally;
+use crate::tally::Tally;
 use crate::units;
 use hashes::BucketIter;
 use hashes::BucketRead;
@@ -45,26 +47,26 @@ enum StoredHash {
 }
 
 // The buckets, and two numbers past the last; then the hashes, and the table check.
-pub fn hash_table(order: RunTimeEndian, s: &[u8], index: NameIndex) {
+pub fn hash_table(order: RunTimeEndian, s: &[u8], index: NameIndex, t: &mut Tally) {
     for number in 0..units::asked(bucket_count(s, index)) {
-        bucket(order, s, index, number);
+        bucket(order, s, index, number, t);
     }
-    lookups(order, s, index);
-    table(order, s, index);
+    lookups(order, s, index, t);
+    table(order, s, index, t);
 }
 
 // The cursor of a bucket, and its steps.
-fn bucket(order: RunTimeEndian, s: &[u8], index: NameIndex, number: u32) {
-    units::named(b"find_by_bucket", number);
+fn bucket(order: RunTimeEndian, s: &[u8], index: NameIndex, number: u32, t: &mut Tally) {
+    tally::call_of(t, tally::FIND_BY_BUCKET, number as u64);
     match find_by_bucket(order, s, index, number) {
         BucketRead::Value(held) => {
             first(held);
             match held {
-                BucketIter::Some(c) => bucket_steps(order, s, index, c),
+                BucketIter::Some(c) => bucket_steps(order, s, index, c, t),
                 BucketIter::None => {}
             }
         }
-        BucketRead::Refused(e) => show::refused(e),
+        BucketRead::Refused(e) => tally::refused(t, e),
     }
 }
 
@@ -80,14 +82,20 @@ fn first(held: BucketIter) {
 }
 
 // Steps up to the first that gives no name, and two after it.
-fn bucket_steps(order: RunTimeEndian, s: &[u8], index: NameIndex, from: NameBucketIter) {
+fn bucket_steps(
+    order: RunTimeEndian,
+    s: &[u8],
+    index: NameIndex,
+    from: NameBucketIter,
+    t: &mut Tally,
+) {
     let mut cursor = from;
     for n in 0..STEPS {
-        let next = bucket_step(order, s, index, cursor);
+        let next = bucket_step(order, s, index, cursor, t);
         cursor = next.cursor;
         if !next.more {
-            let second = bucket_step(order, s, index, cursor);
-            bucket_step(order, s, index, second.cursor);
+            let second = bucket_step(order, s, index, cursor, t);
+            bucket_step(order, s, index, second.cursor, t);
             return;
         }
     }
@@ -98,8 +106,9 @@ fn bucket_step(
     s: &[u8],
     index: NameIndex,
     cursor: NameBucketIter,
+    t: &mut Tally,
 ) -> InBucket {
-    show::text(b"next_in_bucket");
+    tally::call(t, tally::NEXT_IN_BUCKET);
     match cursor.next(order, s, index) {
         NameBucketStep::End(c) => {
             show::text(b" end\n");
@@ -118,7 +127,7 @@ fn bucket_step(
             }
         }
         NameBucketStep::Refused(e, c) => {
-            show::refused(e);
+            tally::refused(t, e);
             InBucket {
                 cursor: c,
                 more: false,
@@ -128,39 +137,39 @@ fn bucket_step(
 }
 
 // A lookup of each of the hashes that gimli was asked for: those of the first names, and others.
-fn lookups(order: RunTimeEndian, s: &[u8], index: NameIndex) {
-    of_first_names(order, s, index);
-    by_hash(order, s, index, 0);
-    by_hash(order, s, index, 1);
-    of_last_bucket(order, s, index);
-    by_hash(order, s, index, 5381);
-    by_hash(order, s, index, 4294967295);
-    after_first(order, s, index);
+fn lookups(order: RunTimeEndian, s: &[u8], index: NameIndex, t: &mut Tally) {
+    of_first_names(order, s, index, t);
+    by_hash(order, s, index, 0, t);
+    by_hash(order, s, index, 1, t);
+    of_last_bucket(order, s, index, t);
+    by_hash(order, s, index, 5381, t);
+    by_hash(order, s, index, 4294967295, t);
+    after_first(order, s, index, t);
 }
 
-fn of_first_names(order: RunTimeEndian, s: &[u8], index: NameIndex) {
-    of_name(order, s, index, 0);
-    of_name(order, s, index, 1);
-    of_name(order, s, index, 2);
-    of_name(order, s, index, 3);
-    of_name(order, s, index, 4);
-    of_name(order, s, index, 5);
+fn of_first_names(order: RunTimeEndian, s: &[u8], index: NameIndex, t: &mut Tally) {
+    of_name(order, s, index, 0, t);
+    of_name(order, s, index, 1, t);
+    of_name(order, s, index, 2, t);
+    of_name(order, s, index, 3, t);
+    of_name(order, s, index, 4, t);
+    of_name(order, s, index, 5, t);
 }
 
 // The hash that a name stores.
-fn of_name(order: RunTimeEndian, s: &[u8], index: NameIndex, name: u32) {
+fn of_name(order: RunTimeEndian, s: &[u8], index: NameIndex, name: u32, t: &mut Tally) {
     match hash_of(order, s, fit(s, index), name) {
-        StoredHash::Some(hash) => by_hash(order, s, index, hash),
+        StoredHash::Some(hash) => by_hash(order, s, index, hash, t),
         StoredHash::None => {}
     }
 }
 
 // The number of the last bucket, as a hash.
-fn of_last_bucket(order: RunTimeEndian, s: &[u8], index: NameIndex) {
+fn of_last_bucket(order: RunTimeEndian, s: &[u8], index: NameIndex, t: &mut Tally) {
     match bucket_count(s, index) {
         CountRead::Value(count) => {
             if 0 < count {
-                by_hash(order, s, index, count - 1);
+                by_hash(order, s, index, count - 1, t);
             }
         }
         CountRead::Refused(_) => {}
@@ -168,9 +177,9 @@ fn of_last_bucket(order: RunTimeEndian, s: &[u8], index: NameIndex) {
 }
 
 // The hash after the one that the first name stores.
-fn after_first(order: RunTimeEndian, s: &[u8], index: NameIndex) {
+fn after_first(order: RunTimeEndian, s: &[u8], index: NameIndex, t: &mut Tally) {
     match hash_of(order, s, fit(s, index), 0) {
-        StoredHash::Some(hash) => by_hash(order, s, index, after(hash)),
+        StoredHash::Some(hash) => by_hash(order, s, index, after(hash), t),
         StoredHash::None => {}
     }
 }
@@ -196,34 +205,40 @@ fn hash_of(order: RunTimeEndian, s: &[u8], r: PartsRead, name: u32) -> StoredHas
 }
 
 // The cursor of a hash, and its steps.
-fn by_hash(order: RunTimeEndian, s: &[u8], index: NameIndex, hash: u32) {
-    units::named(b"find_by_hash", hash);
+fn by_hash(order: RunTimeEndian, s: &[u8], index: NameIndex, hash: u32, t: &mut Tally) {
+    tally::call_of(t, tally::FIND_BY_HASH, hash as u64);
     match find_by_hash(order, s, index, hash) {
         HashRead::Value(c) => {
             let held = c.bucket_iter;
             first(held);
-            hash_steps(order, s, index, c)
+            hash_steps(order, s, index, c, t)
         }
-        HashRead::Refused(e) => show::refused(e),
+        HashRead::Refused(e) => tally::refused(t, e),
     }
 }
 
 // Steps up to the first that gives no name, and two after it.
-fn hash_steps(order: RunTimeEndian, s: &[u8], index: NameIndex, from: NameHashIter) {
+fn hash_steps(order: RunTimeEndian, s: &[u8], index: NameIndex, from: NameHashIter, t: &mut Tally) {
     let mut cursor = from;
     for n in 0..STEPS {
-        let next = hash_step(order, s, index, cursor);
+        let next = hash_step(order, s, index, cursor, t);
         cursor = next.cursor;
         if !next.more {
-            let second = hash_step(order, s, index, cursor);
-            hash_step(order, s, index, second.cursor);
+            let second = hash_step(order, s, index, cursor, t);
+            hash_step(order, s, index, second.cursor, t);
             return;
         }
     }
 }
 
-fn hash_step(order: RunTimeEndian, s: &[u8], index: NameIndex, cursor: NameHashIter) -> OfHash {
-    show::text(b"next_of_hash");
+fn hash_step(
+    order: RunTimeEndian,
+    s: &[u8],
+    index: NameIndex,
+    cursor: NameHashIter,
+    t: &mut Tally,
+) -> OfHash {
+    tally::call(t, tally::NEXT_OF_HASH);
     match cursor.next(order, s, index) {
         NameHashStep::End(c) => {
             show::text(b" end\n");
@@ -240,7 +255,7 @@ fn hash_step(order: RunTimeEndian, s: &[u8], index: NameIndex, cursor: NameHashI
             }
         }
         NameHashStep::Refused(e, c) => {
-            show::refused(e);
+            tally::refused(t, e);
             OfHash {
                 cursor: c,
                 more: false,
@@ -250,8 +265,8 @@ fn hash_step(order: RunTimeEndian, s: &[u8], index: NameIndex, cursor: NameHashI
 }
 
 // The table check.
-fn table(order: RunTimeEndian, s: &[u8], index: NameIndex) {
-    show::text(b"table");
+fn table(order: RunTimeEndian, s: &[u8], index: NameIndex, t: &mut Tally) {
+    tally::call(t, tally::TABLE);
     match check_table(order, s, index) {
         TableCheck::NoTable => show::text(b" none\n"),
         TableCheck::Complete => show::text(b" complete\n"),
@@ -259,6 +274,6 @@ fn table(order: RunTimeEndian, s: &[u8], index: NameIndex) {
             show::text(b" missed");
             line::answered(i.missed as u64)
         }
-        TableCheck::Refused(e) => show::refused(e),
+        TableCheck::Refused(e) => tally::refused(t, e),
     }
 }

@@ -4,6 +4,8 @@ use crate::line;
 use crate::name_strings;
 use crate::pool;
 use crate::table;
+use crate::tally;
+use crate::tally::Tally;
 use crate::units;
 use headers::Augmentation;
 use headers::DebugNames;
@@ -12,47 +14,58 @@ use headers::NameIndexHeader;
 use headers::NameIndexHeaderIter;
 use index::IndexRead;
 use index::NameIndex;
+use reader::Error;
 use reader::RunTimeEndian;
 
 // Steps up to the section's end, and the step there, which says end. After a refusal the cursor must be there too.
-pub fn headers(order: RunTimeEndian, s: &[u8], strings: &[u8]) {
+pub fn headers(order: RunTimeEndian, s: &[u8], strings: &[u8], t: &mut Tally) {
     let first = DebugNames::headers();
     let mut at = first.at;
     while at < s.len() {
-        let next = step(order, s, strings, at);
+        let next = step(order, s, strings, at, t);
         if next <= at {
             return;
         }
         at = next;
     }
-    step(order, s, strings, at);
+    step(order, s, strings, at, t);
 }
 
 // A step of the cursor that stands at a place, and where the cursor stands after it.
-fn step(order: RunTimeEndian, s: &[u8], strings: &[u8], at: usize) -> usize {
+fn step(order: RunTimeEndian, s: &[u8], strings: &[u8], at: usize, t: &mut Tally) -> usize {
     let cursor = NameIndexHeaderIter { at: at };
     match cursor.next(order, s) {
         HeaderStep::End(c) => {
-            show::text(b"end\n");
+            tally::call(t, tally::END);
+            line::end();
             c.at
         }
         HeaderStep::Header(h, c) => {
-            header(h);
-            open(order, s, strings, h);
+            header(h, t);
+            open(order, s, strings, h, t);
             c.at
         }
         HeaderStep::Refused(e, c) => {
-            line::refused_step(e);
+            refused(e, t);
             c.at
         }
     }
 }
 
+// A refused step: it counts as one of a header, although its line has no such word.
+fn refused(e: Error, t: &mut Tally) {
+    tally::add(t, tally::HEADER);
+    tally::add(t, e.number() as usize);
+    show::text(b"refused");
+    line::number(e.number() as u64);
+    line::answered(e.value());
+}
+
 // What a header says.
-fn header(h: NameIndexHeader) {
+fn header(h: NameIndexHeader, t: &mut Tally) {
     let offset = h.offset;
     let format = h.format;
-    show::text(b"header");
+    tally::call(t, tally::HEADER);
     line::number(offset.0 as u64);
     line::number(h.length as u64);
     line::number(format.word_size() as u64);
@@ -83,17 +96,17 @@ fn augmentation(h: NameIndexHeader) {
 }
 
 // The index of a header, and all calls on it.
-fn open(order: RunTimeEndian, s: &[u8], strings: &[u8], h: NameIndexHeader) {
-    show::text(b"index");
+fn open(order: RunTimeEndian, s: &[u8], strings: &[u8], h: NameIndexHeader, t: &mut Tally) {
+    tally::call(t, tally::INDEX);
     match NameIndex::new(s, h) {
         IndexRead::Value(i) => {
             line::end();
-            units::units(order, s, i);
-            name_strings::strings(order, s, strings, i);
-            table::abbreviations(s, i);
-            hash_table::hash_table(order, s, i);
-            pool::entries(order, s, i);
+            units::units(order, s, i, t);
+            name_strings::strings(order, s, strings, i, t);
+            table::abbreviations(s, i, t);
+            hash_table::hash_table(order, s, i, t);
+            pool::entries(order, s, i, t);
         }
-        IndexRead::Refused(e) => show::refused(e),
+        IndexRead::Refused(e) => tally::refused(t, e),
     }
 }

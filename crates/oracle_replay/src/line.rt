@@ -1,5 +1,4 @@
 // Parts of a line.
-use reader::Error;
 
 // A number, after a space.
 pub fn number(n: u64) {
@@ -15,13 +14,5 @@ pub fn end() {
 // The last number of a line.
 pub fn answered(n: u64) {
     number(n);
-    end();
-}
-
-// A refused header step, which has no name before it.
-pub fn refused_step(e: Error) {
-    show::text(b"refused");
-    number(e.number() as u64);
-    number(e.value());
     end();
 }

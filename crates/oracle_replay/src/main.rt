@@ -10,6 +10,7 @@ mod line; // parts of a line
 mod name_strings; // names, their offsets and their strings
 mod pool; // the series of each name, and entries and their facts by handle
 mod table; // the abbreviations by code
+mod tally; // how many lines of each call, and refusals, there are
 mod units; // counts and units
 
 use libc::STDIN_FILENO;
@@ -18,6 +19,7 @@ use reader::U8Read;
 use reader::U16Read;
 use reader::read_u8;
 use reader::read_u16;
+use tally::Tally;
 
 // The byte order of a section, and the two lengths.
 struct Head {
@@ -27,7 +29,9 @@ struct Head {
 }
 
 fn main() {
-    replay(count());
+    let mut tally = [0; 41];
+    replay(count(), &mut tally);
+    tally::totals(&tally);
 }
 
 // How many sections there are.
@@ -38,20 +42,21 @@ fn count() -> usize {
 }
 
 // Answers each section in turn, up to the first that is cut short.
-fn replay(count: usize) {
+fn replay(count: usize, t: &mut Tally) {
     for number in 0..count {
-        if !one(number) {
+        if !one(number, t) {
             return;
         }
     }
 }
 
 // Reads the next section and answers it. It says whether the section was whole.
-fn one(number: usize) -> bool {
+fn one(number: usize, t: &mut Tally) -> bool {
     let mut names = io::buffer();
     let mut strings = io::buffer();
     show::text(b"section");
     line::answered(number as u64);
+    tally::add(t, tally::SECTIONS);
     let head = read_head();
     let order = head.order;
     if !fill(&mut names, head.names) {
@@ -60,7 +65,7 @@ fn one(number: usize) -> bool {
     if !fill(&mut strings, head.strings) {
         return cut_short();
     }
-    answer(order, &names, head.names, &strings, head.strings)
+    answer(order, &names, head.names, &strings, head.strings, t)
 }
 
 fn cut_short() -> bool {
@@ -113,13 +118,20 @@ fn fill(buffer: &mut [u8], len: usize) -> bool {
 }
 
 // Answers the section that stands at the start of the buffers.
-fn answer(order: RunTimeEndian, names: &[u8], n: usize, strings: &[u8], m: usize) -> bool {
+fn answer(
+    order: RunTimeEndian,
+    names: &[u8],
+    n: usize,
+    strings: &[u8],
+    m: usize,
+    t: &mut Tally,
+) -> bool {
     if names.len() < n {
         return cut_short();
     }
     if strings.len() < m {
         return cut_short();
     }
-    header_steps::headers(order, &names[0..n], &strings[0..m]);
+    header_steps::headers(order, &names[0..n], &strings[0..m], t);
     true
 }

@@ -1,5 +1,7 @@
 // The entry pool of an index: the series of each name, and the entry at each offset with its five facts.
 use crate::line;
+use crate::tally;
+use crate::tally::Tally;
 use crate::units;
 use attributes::DieOffset;
 use attributes::DieOffsetRead;
@@ -32,7 +34,7 @@ use reader::NameTableIndex;
 use reader::RunTimeEndian;
 
 // No more steps than this are made for a name; one more after the step that ends its series.
-const STEPS: u32 = 6;
+const STEPS: u32 = 12;
 
 // Where a cursor stands after a step, and whether the step gave an entry.
 struct Stepped {
@@ -41,42 +43,42 @@ struct Stepped {
 }
 
 // The series of each name, and of two numbers past the last; then the entry at each offset.
-pub fn entries(order: RunTimeEndian, s: &[u8], index: NameIndex) {
+pub fn entries(order: RunTimeEndian, s: &[u8], index: NameIndex, t: &mut Tally) {
     for number in 0..units::asked(name_count(s, index)) {
-        series(order, s, index, number);
+        series(order, s, index, number, t);
     }
-    handles(order, s, index);
+    handles(order, s, index, t);
 }
 
 // The cursor of a name, and its steps.
-fn series(order: RunTimeEndian, s: &[u8], index: NameIndex, number: u32) {
-    units::named(b"name_entries", number);
+fn series(order: RunTimeEndian, s: &[u8], index: NameIndex, number: u32, t: &mut Tally) {
+    tally::call_of(t, tally::NAME_ENTRIES, number as u64);
     match name_entries(order, s, index, NameTableIndex(number)) {
         EntriesRead::Value(c) => {
             line::answered(c.at as u64);
-            steps(order, s, index, c.at)
+            steps(order, s, index, c.at, t)
         }
-        EntriesRead::Refused(e) => show::refused(e),
+        EntriesRead::Refused(e) => tally::refused(t, e),
     }
 }
 
 // Steps up to the first that gives no entry, and one after it.
-fn steps(order: RunTimeEndian, s: &[u8], index: NameIndex, from: usize) {
+fn steps(order: RunTimeEndian, s: &[u8], index: NameIndex, from: usize, t: &mut Tally) {
     let mut at = from;
     for n in 0..STEPS {
-        let next = step(order, s, index, at);
+        let next = step(order, s, index, at, t);
         at = next.at;
         if !next.more {
-            step(order, s, index, at);
+            step(order, s, index, at, t);
             return;
         }
     }
 }
 
-// A step of the cursor that stands at a place.
-fn step(order: RunTimeEndian, s: &[u8], index: NameIndex, at: usize) -> Stepped {
+// A step of the cursor that stands at a place, and the facts of its entry where the handles do not go so far.
+fn step(order: RunTimeEndian, s: &[u8], index: NameIndex, at: usize, t: &mut Tally) -> Stepped {
     let cursor = NameEntryIter { at: at };
-    show::text(b"next");
+    tally::call(t, tally::NEXT);
     match cursor.next(order, s, index) {
         NameEntryStep::End(c) => {
             show::text(b" end\n");
@@ -89,18 +91,26 @@ fn step(order: RunTimeEndian, s: &[u8], index: NameIndex, at: usize) -> Stepped 
             let offset = e.offset;
             line::number(offset.0 as u64);
             shown(e);
+            beyond(order, s, index, offset.0, t);
             Stepped {
                 at: c.at,
                 more: true,
             }
         }
         NameEntryStep::Refused(e, c) => {
-            show::refused(e);
+            tally::refused(t, e);
             Stepped {
                 at: c.at,
                 more: false,
             }
         }
+    }
+}
+
+// The facts of the entry that a step gave, where the handles do not go so far.
+fn beyond(order: RunTimeEndian, s: &[u8], index: NameIndex, offset: usize, t: &mut Tally) {
+    if 21 < offset {
+        facts(order, s, index, offset, t);
     }
 }
 
@@ -111,10 +121,10 @@ fn shown(e: NameEntry) {
 }
 
 // The entry at each offset, and its facts. Of the refused ones only the first has lines for its facts.
-fn handles(order: RunTimeEndian, s: &[u8], index: NameIndex) {
+fn handles(order: RunTimeEndian, s: &[u8], index: NameIndex, t: &mut Tally) {
     let mut refused = false;
     for offset in 0..offsets(fit(s, index)) {
-        refused = handle(order, s, index, offset, refused);
+        refused = handle(order, s, index, offset, refused, t);
     }
 }
 
@@ -133,75 +143,76 @@ fn offsets(r: PartsRead) -> usize {
 }
 
 // The entry at an offset, given whether one was refused before; and whether one was by now.
-fn handle(order: RunTimeEndian, s: &[u8], index: NameIndex, offset: usize, refused: bool) -> bool {
-    named(b"name_entry", offset);
+fn handle(
+    order: RunTimeEndian,
+    s: &[u8],
+    index: NameIndex,
+    offset: usize,
+    refused: bool,
+    t: &mut Tally,
+) -> bool {
+    tally::call_of(t, tally::NAME_ENTRY, offset as u64);
     match name_entry(order, s, index, NameEntryOffset(offset)) {
         EntryRead::Value(e) => {
             shown(e);
-            facts(order, s, index, offset);
+            facts(order, s, index, offset, t);
             refused
         }
         EntryRead::Refused(e) => {
-            show::refused(e);
+            tally::refused(t, e);
             if !refused {
-                facts(order, s, index, offset);
+                facts(order, s, index, offset, t);
             }
             true
         }
     }
 }
 
-// A call's name, and the offset that it was given.
-fn named(call: &[u8], offset: usize) {
-    show::text(call);
-    line::number(offset as u64);
-}
-
 // The five facts of the entry at an offset.
-fn facts(order: RunTimeEndian, s: &[u8], index: NameIndex, offset: usize) {
-    named(b"entry_compile_unit", offset);
-    unit_line(compile_unit(order, s, index, NameEntryOffset(offset)));
-    named(b"entry_type_unit", offset);
-    type_unit_line(type_unit(order, s, index, NameEntryOffset(offset)));
-    named(b"die_offset", offset);
-    die_line(die_offset(order, s, index, NameEntryOffset(offset)));
-    named(b"parent", offset);
-    parent_line(parent(order, s, index, NameEntryOffset(offset)));
-    named(b"type_hash", offset);
-    hash_line(type_hash(order, s, index, NameEntryOffset(offset)));
+fn facts(order: RunTimeEndian, s: &[u8], index: NameIndex, offset: usize, t: &mut Tally) {
+    tally::call_of(t, tally::ENTRY_COMPILE_UNIT, offset as u64);
+    unit_line(compile_unit(order, s, index, NameEntryOffset(offset)), t);
+    tally::call_of(t, tally::ENTRY_TYPE_UNIT, offset as u64);
+    type_unit_line(type_unit(order, s, index, NameEntryOffset(offset)), t);
+    tally::call_of(t, tally::DIE_OFFSET, offset as u64);
+    die_line(die_offset(order, s, index, NameEntryOffset(offset)), t);
+    tally::call_of(t, tally::PARENT, offset as u64);
+    parent_line(parent(order, s, index, NameEntryOffset(offset)), t);
+    tally::call_of(t, tally::TYPE_HASH, offset as u64);
+    hash_line(type_hash(order, s, index, NameEntryOffset(offset)), t);
 }
 
-fn unit_line(r: EntryUnitRead) {
+fn unit_line(r: EntryUnitRead, t: &mut Tally) {
     match r {
         EntryUnitRead::Value(unit) => match unit {
             EntryUnit::Some(o) => line::answered(o.0 as u64),
             EntryUnit::None => show::text(b" -\n"),
         },
-        EntryUnitRead::Refused(e) => show::refused(e),
+        EntryUnitRead::Refused(e) => tally::refused(t, e),
     }
 }
 
-fn type_unit_line(r: EntryTypeUnitRead) {
+fn type_unit_line(r: EntryTypeUnitRead, t: &mut Tally) {
     match r {
         EntryTypeUnitRead::Value(unit) => match unit {
             EntryTypeUnit::Some(u) => units::type_unit_line(u),
             EntryTypeUnit::None => show::text(b" -\n"),
         },
-        EntryTypeUnitRead::Refused(e) => show::refused(e),
+        EntryTypeUnitRead::Refused(e) => tally::refused(t, e),
     }
 }
 
-fn die_line(r: DieOffsetRead) {
+fn die_line(r: DieOffsetRead, t: &mut Tally) {
     match r {
         DieOffsetRead::Value(die) => match die {
             DieOffset::Some(o) => line::answered(o.0 as u64),
             DieOffset::None => show::text(b" -\n"),
         },
-        DieOffsetRead::Refused(e) => show::refused(e),
+        DieOffsetRead::Refused(e) => tally::refused(t, e),
     }
 }
 
-fn parent_line(r: ParentRead) {
+fn parent_line(r: ParentRead, t: &mut Tally) {
     match r {
         ParentRead::Value(parent) => match parent {
             EntryParent::Entry(o) => {
@@ -211,16 +222,16 @@ fn parent_line(r: ParentRead) {
             EntryParent::NoParent => show::text(b" none\n"),
             EntryParent::NotKnown => show::text(b" -\n"),
         },
-        ParentRead::Refused(e) => show::refused(e),
+        ParentRead::Refused(e) => tally::refused(t, e),
     }
 }
 
-fn hash_line(r: TypeHashRead) {
+fn hash_line(r: TypeHashRead, t: &mut Tally) {
     match r {
         TypeHashRead::Value(hash) => match hash {
             TypeHash::Some(h) => line::answered(h),
             TypeHash::None => show::text(b" -\n"),
         },
-        TypeHashRead::Refused(e) => show::refused(e),
+        TypeHashRead::Refused(e) => tally::refused(t, e),
     }
 }

@@ -1,5 +1,7 @@
 // How many units, buckets and names an index has, and its units by their numbers.
 use crate::line;
+use crate::tally;
+use crate::tally::Tally;
 use index::NameIndex;
 use names::CountRead;
 use names::DefaultUnit;
@@ -32,42 +34,42 @@ enum Kind {
 }
 
 // The counts, and then the units.
-pub fn units(order: RunTimeEndian, s: &[u8], index: NameIndex) {
-    counts(s, index);
+pub fn units(order: RunTimeEndian, s: &[u8], index: NameIndex, t: &mut Tally) {
+    counts(s, index, t);
     let compile = compile_unit_count(s, index);
-    list(Kind::Compile, order, s, index, compile);
+    list(Kind::Compile, order, s, index, compile, t);
     let local = local_type_unit_count(s, index);
-    list(Kind::Local, order, s, index, local);
+    list(Kind::Local, order, s, index, local, t);
     let foreign = foreign_type_unit_count(s, index);
-    list(Kind::Foreign, order, s, index, foreign);
+    list(Kind::Foreign, order, s, index, foreign, t);
     let both = type_unit_count(s, index);
-    list(Kind::Type, order, s, index, both);
-    default(order, s, index);
+    list(Kind::Type, order, s, index, both, t);
+    default(order, s, index, t);
 }
 
-fn counts(s: &[u8], index: NameIndex) {
-    show::text(b"counts");
-    count(compile_unit_count(s, index));
-    count(local_type_unit_count(s, index));
-    count(foreign_type_unit_count(s, index));
-    count(type_unit_count(s, index));
-    count(bucket_count(s, index));
-    count(name_count(s, index));
-    flag(has_hash_table(s, index));
+fn counts(s: &[u8], index: NameIndex, t: &mut Tally) {
+    tally::call(t, tally::COUNTS);
+    count(compile_unit_count(s, index), t);
+    count(local_type_unit_count(s, index), t);
+    count(foreign_type_unit_count(s, index), t);
+    count(type_unit_count(s, index), t);
+    count(bucket_count(s, index), t);
+    count(name_count(s, index), t);
+    flag(has_hash_table(s, index), t);
     line::end();
 }
 
-fn count(r: CountRead) {
+fn count(r: CountRead, t: &mut Tally) {
     match r {
         CountRead::Value(n) => line::number(n as u64),
-        CountRead::Refused(e) => show::refused(e),
+        CountRead::Refused(e) => tally::refused(t, e),
     }
 }
 
-fn flag(r: FlagRead) {
+fn flag(r: FlagRead, t: &mut Tally) {
     match r {
         FlagRead::Value(b) => line::number(bit(b)),
-        FlagRead::Refused(e) => show::refused(e),
+        FlagRead::Refused(e) => tally::refused(t, e),
     }
 }
 
@@ -88,57 +90,58 @@ fn at_most(n: u32) -> u32 {
 }
 
 // The units of a list, by their numbers.
-fn list(kind: Kind, order: RunTimeEndian, s: &[u8], index: NameIndex, count: CountRead) {
+fn list(
+    kind: Kind,
+    order: RunTimeEndian,
+    s: &[u8],
+    index: NameIndex,
+    count: CountRead,
+    t: &mut Tally,
+) {
     for number in 0..asked(count) {
-        unit(kind, order, s, index, number);
+        unit(kind, order, s, index, number, t);
     }
 }
 
-fn unit(kind: Kind, order: RunTimeEndian, s: &[u8], index: NameIndex, number: u32) {
+fn unit(kind: Kind, order: RunTimeEndian, s: &[u8], index: NameIndex, number: u32, t: &mut Tally) {
     match kind {
         Kind::Compile => {
-            named(b"compile_unit", number);
-            offset(compile_unit(order, s, index, number))
+            tally::call_of(t, tally::COMPILE_UNIT, number as u64);
+            offset(compile_unit(order, s, index, number), t)
         }
         Kind::Local => {
-            named(b"local_type_unit", number);
-            offset(local_type_unit(order, s, index, number))
+            tally::call_of(t, tally::LOCAL_TYPE_UNIT, number as u64);
+            offset(local_type_unit(order, s, index, number), t)
         }
         Kind::Foreign => {
-            named(b"foreign_type_unit", number);
-            signature(foreign_type_unit(order, s, index, number))
+            tally::call_of(t, tally::FOREIGN_TYPE_UNIT, number as u64);
+            signature(foreign_type_unit(order, s, index, number), t)
         }
         Kind::Type => {
-            named(b"type_unit", number);
-            either(type_unit(order, s, index, number))
+            tally::call_of(t, tally::TYPE_UNIT, number as u64);
+            either(type_unit(order, s, index, number), t)
         }
     }
 }
 
-// A call's name, and the number that it was given.
-pub fn named(call: &[u8], number: u32) {
-    show::text(call);
-    line::number(number as u64);
-}
-
-fn offset(r: UnitRead) {
+fn offset(r: UnitRead, t: &mut Tally) {
     match r {
         UnitRead::Value(u) => line::answered(u.0 as u64),
-        UnitRead::Refused(e) => show::refused(e),
+        UnitRead::Refused(e) => tally::refused(t, e),
     }
 }
 
-fn signature(r: SignatureRead) {
+fn signature(r: SignatureRead, t: &mut Tally) {
     match r {
-        SignatureRead::Value(t) => line::answered(t.0),
-        SignatureRead::Refused(e) => show::refused(e),
+        SignatureRead::Value(v) => line::answered(v.0),
+        SignatureRead::Refused(e) => tally::refused(t, e),
     }
 }
 
-fn either(r: TypeUnitRead) {
+fn either(r: TypeUnitRead, t: &mut Tally) {
     match r {
         TypeUnitRead::Value(u) => type_unit_line(u),
-        TypeUnitRead::Refused(e) => show::refused(e),
+        TypeUnitRead::Refused(e) => tally::refused(t, e),
     }
 }
 
@@ -148,18 +151,18 @@ pub fn type_unit_line(u: NameTypeUnit) {
             show::text(b" local");
             line::answered(o.0 as u64)
         }
-        NameTypeUnit::Foreign(t) => {
+        NameTypeUnit::Foreign(v) => {
             show::text(b" foreign");
-            line::answered(t.0)
+            line::answered(v.0)
         }
     }
 }
 
-fn default(order: RunTimeEndian, s: &[u8], index: NameIndex) {
-    show::text(b"default_compile_unit");
+fn default(order: RunTimeEndian, s: &[u8], index: NameIndex, t: &mut Tally) {
+    tally::call(t, tally::DEFAULT_COMPILE_UNIT);
     match default_compile_unit(order, s, index) {
         DefaultUnitRead::Value(u) => default_line(u),
-        DefaultUnitRead::Refused(e) => show::refused(e),
+        DefaultUnitRead::Refused(e) => tally::refused(t, e),
     }
 }
 

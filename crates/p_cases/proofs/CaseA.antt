@@ -26,10 +26,15 @@ use Rattle.attributes.specs.Meaning.{dieOffset, dieOffsetIn, parentOf, parentIn
 use Rattle.entries.specs.Entries.{entry, nameEntry}
 use Rattle.entries.specs.Series.{seriesStart, seriesEntry, entriesFrom, series, nameEntries, moved, entryStep}
 use Rattle.entries.specs.Facts.{entryDieOffset, entryParent}
-use Rattle.reader.specs.Lists.{numbersFrom, filterb, takeWhile}
+use Rattle.reader.specs.Lists.{numbersFrom, filterb, takeWhile, memberb}
 use Rattle.hashes.specs.Table.{nthOf, storedStart, storedHash, bucketOf, namesFrom, runFrom, examinedFrom, fromStart, run, examined, storing}
 use Rattle.hashes.specs.Lookups.{findByBucket, findByHash, firstOr, nextInBucket, nextStoring, bucketStep, hashStep}
-use Rattle.p_cases.specs.CaseA.{caseA, stringsA, headerA, indexA, partsA, HeaderOfA, OpensA, PartsOfA, FitsA, UnitsOfA, StringsOfA, BytesOfA, AbbreviationsOfA, CursorsOfA, SeriesOfA, StepsOfA, FactsOfA, BucketsOfA, RunsOfA, BucketStepsOfA, HashOfA, HashStepsOfA, LentA}
+use Rattle.headers.specs.Headers.{headerAt, headersFrom}
+use Rattle.tables.specs.Check.{startAbove, anyAbove, isMissed, missedNames, verdict, tableCheck}
+use Rattle.listing.specs.Names.{nameHash, counted, entryCount, nameLine}
+use Rattle.listing.specs.Indexes.{missedIn, openedIndex}
+use Rattle.listing.specs.Lines.{nameLines, headerLines, sectionLines}
+use Rattle.p_cases.specs.CaseA.{caseA, stringsA, headerA, indexA, partsA, HeaderOfA, OpensA, PartsOfA, FitsA, UnitsOfA, StringsOfA, BytesOfA, AbbreviationsOfA, CursorsOfA, SeriesOfA, StepsOfA, FactsOfA, BucketsOfA, RunsOfA, BucketStepsOfA, HashOfA, HashStepsOfA, LentA, ListingOfA}
 
 pub header-of-a : HeaderOfA
 unfolding caseA headerA header headerCut headerBody counts augmentation initialLength readNumber skipped cut spelled digits
@@ -116,3 +121,7 @@ bytes-below (b ∷ bs) e = tested (ltb b 256) refl e (bytes-below bs)
 pub lent-a : LentA
 unfolding caseA indexA allBelow
 lent-a = (bytes-below caseA refl, omega arith)
+
+pub listing-of-a : ListingOfA
+unfolding caseA sectionLines headerLines nameLines nameLine nameHash entryCount counted openedIndex missedIn headersFrom headerAt header headerCut headerBody counts augmentation initialLength readNumber skipped cut spelled digits nameIndex indexOf cutParts passedOver parts place placesFrom sizes wordBytes hashBytes longest parsed ending table listing declaration withAttributes head attributes attributesIn pair leb128 numberOfBytes numberBytes someBeyond beyond complete base128 series seriesStart seriesEntry entriesFrom nthWord entry values kept noAttribute first formValue asFlag asUnsigned asOffset readByte find fitted nthOf storedStart storedHash bucketOf namesFrom runFrom fromStart run numbersFrom filterb takeWhile memberb numberAt startAbove anyAbove isMissed missedNames verdict tableCheck nameStringOffset
+listing-of-a = refl

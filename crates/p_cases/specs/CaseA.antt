@@ -43,6 +43,11 @@ use Rattle.hashes.specs.declared.hash.NameHashStep.{NameHashStep}
 use Rattle.hashes.specs.Table.{run, examined}
 use Rattle.hashes.specs.Lookups.{bucketCursor, hashCursor, findByBucket, findByHash, bucketStep, hashStep}
 use Rattle.hashes.specs.Answers.{bucketOutcome, bucketStepOf, hashOutcome, hashStepOf}
+use Rattle.reader.specs.Listing.{Listing, ended, item}
+use Rattle.listing.specs.declared.name.NameHash.{NameHash}
+use Rattle.listing.specs.declared.index_line.Missed.{Missed}
+use Rattle.listing.specs.declared.lines.Line.{Line}
+use Rattle.listing.specs.Lines.{sectionLines}
 
 -- the bytes, a line for each sentence of document 01: the length; the version and its padding; C; L; F; B; N; A; the augmentation;
 -- the unit; the starts; the hashes; the strings; the entry offsets; the abbreviations; the pool
@@ -238,3 +243,15 @@ HashStepsOfA = Linked hashStepOf (hashStep RunTimeEndian.Little caseA indexA) (h
 -- what `CompleteExactly` supposes of any section and index that is lent
 abbrev pub LentA : Type 0
 LentA = Bytes caseA × (indexA .«bucket_count» < 2 ^ 32)
+
+-- the five lines of its listing, as document 01 has them
+abbrev pub nameLineOf : ℕ → ℕ → ℕ → Line
+nameLineOf number hash string = Line.Name (record { name = record { 0 = number }; hash = NameHash.Some hash; string = record { 0 = string }; entries = 1 })
+
+abbrev pub linesA : Listing Line
+linesA =
+    item (Line.Index (record { place = record { 0 = 0 }; «name_count» = 3; «bucket_count» = 2; missed = Missed.Some 0 }))
+    (item (nameLineOf 0 4 1) (item (nameLineOf 1 7 5) (item (nameLineOf 2 9 6) (item (Line.Indexes 1) ended))))
+
+abbrev pub ListingOfA : Type 0
+ListingOfA = sectionLines RunTimeEndian.Little caseA ≡ linesA

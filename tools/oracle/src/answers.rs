@@ -6,6 +6,7 @@
 
 use std::collections::BTreeMap;
 use std::fmt::Display;
+use std::ops::RangeInclusive;
 
 use crate::case::Case;
 use crate::hashes;
@@ -19,11 +20,47 @@ pub const MOST: u32 = 40;
 /// The codes that are searched for in each abbreviation table.
 const CODES: [u64; 8] = [0, 1, 2, 3, 127, 128, 300, u64::MAX];
 
-/// The lines, and how often each call was answered or refused: by the call's name and the refusal's number, 0 for an answer.
+/// The calls, by the first words of their lines. A refused header step counts as `header`, although its line has no such word.
+pub const CALLS: [&str; 26] = [
+    "header",
+    "end",
+    "index",
+    "counts",
+    "compile_unit",
+    "local_type_unit",
+    "foreign_type_unit",
+    "type_unit",
+    "default_compile_unit",
+    "names",
+    "string_offset",
+    "string",
+    "abbreviation",
+    "find_by_bucket",
+    "next_in_bucket",
+    "find_by_hash",
+    "next_of_hash",
+    "table",
+    "name_entries",
+    "next",
+    "name_entry",
+    "entry_compile_unit",
+    "entry_type_unit",
+    "die_offset",
+    "parent",
+    "type_hash",
+];
+
+/// gimli refuses with these numbers.
+pub const REFUSALS: RangeInclusive<u8> = 1..=12;
+
+/// The lines, and what was counted on the way.
 #[derive(Default)]
 pub struct Answers {
     pub text: String,
+    /// How often each call was answered or refused: by the call's name and the refusal's number, 0 for an answer.
     pub tally: BTreeMap<(String, u8), usize>,
+    /// How often answers of some kinds were given.
+    pub kinds: BTreeMap<String, usize>,
 }
 
 impl Answers {
@@ -34,6 +71,36 @@ impl Answers {
 
     pub fn count(&mut self, call: &str, number: u8) {
         *self.tally.entry((call.to_string(), number)).or_default() += 1;
+    }
+
+    pub fn kind(&mut self, kind: &str) {
+        *self.kinds.entry(kind.to_string()).or_default() += 1;
+    }
+
+    /// How often a call was answered, and how often it was refused.
+    pub fn of_call(&self, name: &str) -> (usize, usize) {
+        let sum = |refused: bool| {
+            let own = self.tally.iter().filter(|((call, number), _)| call == name && (*number > 0) == refused);
+            own.map(|(_, count)| count).sum()
+        };
+        (sum(false), sum(true))
+    }
+
+    /// How often there was a refusal of that number.
+    pub fn refusals(&self, number: u8) -> usize {
+        self.tally.iter().filter(|((_, refusal), _)| *refusal == number).map(|(_, count)| count).sum()
+    }
+
+    /// The last lines: how many sections, refusals of each number, and lines of each call there are.
+    pub fn totals(&mut self, sections: usize) {
+        self.line(&format!("sections {sections}"));
+        for number in REFUSALS {
+            self.line(&format!("refused {number} {}", self.refusals(number)));
+        }
+        for call in CALLS {
+            let (answered, refused) = self.of_call(call);
+            self.line(&format!("{call} {}", answered + refused));
+        }
     }
 
     /// The line of a call: its words, then the answer or the refusal.
@@ -67,6 +134,13 @@ pub fn ask(number: usize, case: &Case, out: &mut Answers) {
     let lent = memory.lend();
     out.line(&format!("section {number}"));
     headers(&lent, out);
+}
+
+/// gimli's answers for one case alone.
+pub fn text(case: &Case) -> String {
+    let mut answers = Answers::default();
+    ask(0, case, &mut answers);
+    answers.text
 }
 
 /// Header steps up to the end. After a refusal there is one more step, which says end.
@@ -211,7 +285,8 @@ fn abbreviations(index: &NameIndex<Bytes>, out: &mut Answers) {
             Some(found) => declaration(found),
             None => "-".to_string(),
         };
-        out.count(if answer == "-" { "abbreviation not found" } else { "abbreviation found" }, 0);
+        out.count("abbreviation", 0);
+        out.kind(if answer == "-" { "abbreviation: none" } else { "abbreviation: found" });
         out.line(&format!("abbreviation {code} {answer}"));
     }
 }

@@ -1,7 +1,7 @@
-//! What must hold before anything is written: gimli's answers for a section that was worked out by hand, and that the sections that
-//! are meant to be valid are valid for gimli.
+//! What must hold before anything is written: gimli's answers for a section that was worked out by hand, that the sections that are
+//! meant to be valid are valid for gimli, and that there is enough of everything.
 
-use crate::answers::{self, Answers};
+use crate::answers::{self, Answers, CALLS, REFUSALS};
 use crate::case::Case;
 use crate::fixed;
 use crate::lent::{Bytes, Memory};
@@ -9,9 +9,38 @@ use gimli::{DebugNames, NameIndex};
 
 /// Case A is answered as it was by hand.
 pub fn case_a() {
-    let mut answers = Answers::default();
-    answers::ask(0, &fixed::case_a(), &mut answers);
-    assert_eq!(answers.text, fixed::CASE_A_ANSWERS);
+    assert_eq!(answers::text(&fixed::case_a()), fixed::CASE_A_ANSWERS);
+}
+
+/// The fewest sections; half of all must be damaged.
+const SECTIONS: usize = 2000;
+
+/// How often each refusal must be met, and each call be answered, and be refused.
+const TIMES: usize = 20;
+
+/// The calls that gimli does not refuse on an index that it opened, and the step that says end.
+const NEVER_REFUSED: [&str; 7] = [
+    "end",
+    "counts",
+    "default_compile_unit",
+    "names",
+    "abbreviation",
+    "next_in_bucket",
+    "next_of_hash",
+];
+
+/// There are enough sections, damaged ones, refusals, and lines of each call.
+pub fn enough(sections: usize, damaged: usize, answers: &Answers) {
+    assert!(sections >= SECTIONS && 2 * damaged >= sections, "too few sections");
+    for number in REFUSALS {
+        assert!(answers.refusals(number) >= TIMES, "too few refusals {number}");
+    }
+    for call in CALLS {
+        let (answered, refused) = answers.of_call(call);
+        assert!(answered >= TIMES, "{call} is not answered often enough");
+        let never = NEVER_REFUSED.contains(&call);
+        assert!(if never { refused == 0 } else { refused >= TIMES }, "{call} is refused {refused} times");
+    }
 }
 
 /// Every header of a valid section is read, every index opens, its hash table is complete, and its entries can be read.

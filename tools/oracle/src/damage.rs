@@ -1,11 +1,10 @@
 //! Damaged sections: a valid one with something wrong in it. Some damages are done to the parts, so that all the rest still fits,
-//! and some to the bytes.
+//! and some to the bytes. A section that has nothing of the kind stays as it is, and the program then takes another one.
 
 use crate::bytes::{Writer, leb128};
 use crate::case::Case;
 use crate::model::{COUNTS, Count, Index, Section};
 use crate::random::Random;
-use crate::valid;
 
 /// A damage.
 pub type Damage = fn(&mut Random, Section) -> Case;
@@ -83,7 +82,7 @@ fn cut_at(section: &Section, which: usize, place: usize) -> Case {
     Case::of(section, bytes)
 }
 
-/// A section of one index, cut at every byte of it, and whole. Where the cut leaves a length field it is made to fit.
+/// A section of one index, cut at every byte of it. Where the cut leaves a length field it is made to fit.
 pub fn cut_everywhere(section: &Section) -> Vec<Case> {
     let (bytes, _) = section.encode();
     let body = section.indexes[0].length_bytes();
@@ -91,7 +90,7 @@ pub fn cut_everywhere(section: &Section) -> Vec<Case> {
         true => Case::of(section, bytes[..place].to_vec()),
         false => cut_at(section, 0, place),
     };
-    (0..=bytes.len()).map(cut).collect()
+    (0..bytes.len()).map(cut).collect()
 }
 
 /// Any byte is another one.
@@ -353,22 +352,20 @@ fn declaration_missing(random: &mut Random, mut section: Section) -> Case {
     Case::encoded(&section)
 }
 
-/// A section, and one of its indexes that have a hash table with names. Where it has none, another section.
-fn with_table(random: &mut Random, mut section: Section) -> (Section, usize) {
-    loop {
-        let hashed = |number: &usize| !section.indexes[*number].hashes.is_empty();
-        let tables: Vec<usize> = (0..section.indexes.len()).filter(hashed).collect();
-        if !tables.is_empty() {
-            return (section, random.pick(&tables));
-        }
-        section = valid::section(random);
+/// One of the indexes that have a hash table with names.
+fn some_table<'a>(random: &mut Random, section: &'a mut Section) -> Option<&'a mut Index> {
+    let mut tables: Vec<&mut Index> = section.indexes.iter_mut().filter(|index| !index.hashes.is_empty()).collect();
+    if tables.is_empty() {
+        return None;
     }
+    Some(tables.swap_remove(random.below(tables.len())))
 }
 
 /// The start of a bucket is another one: none, one too early or too late, any name's, or past the last name.
-fn start_changed(random: &mut Random, section: Section) -> Case {
-    let (mut section, which) = with_table(random, section);
-    let index = &mut section.indexes[which];
+fn start_changed(random: &mut Random, mut section: Section) -> Case {
+    let Some(index) = some_table(random, &mut section) else {
+        return Case::encoded(&section);
+    };
     let names = index.hashes.len() as u32;
     let bucket = random.below(index.buckets.len());
     let start = index.buckets[bucket];
@@ -380,9 +377,11 @@ fn start_changed(random: &mut Random, section: Section) -> Case {
 }
 
 /// The hash of a name is another one: the next or the one before, with another highest bit, another name's, or any.
-fn stored_hash_changed(random: &mut Random, section: Section) -> Case {
-    let (mut section, which) = with_table(random, section);
-    let hashes = &mut section.indexes[which].hashes;
+fn stored_hash_changed(random: &mut Random, mut section: Section) -> Case {
+    let Some(index) = some_table(random, &mut section) else {
+        return Case::encoded(&section);
+    };
+    let hashes = &mut index.hashes;
     let name = random.below(hashes.len());
     let hash = hashes[name];
     let (another, any) = (random.pick(hashes), random.next() as u32);

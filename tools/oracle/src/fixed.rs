@@ -165,7 +165,7 @@ pub fn case_a() -> Case {
     little(CASE_A)
 }
 
-/// All of them, case A first.
+/// Those that are not cut, case A first.
 pub fn cases() -> Vec<Case> {
     let mut cases = vec![case_a()];
     for names in [&b""[..], b"\0", b"\0\0\0\0", b"\0\0\0\0\0", b"\x01\0\0\0\x05"] {
@@ -177,9 +177,22 @@ pub fn cases() -> Vec<Case> {
     cases.push(little(&[CASE_A, CASE_A].concat()));
     cases.push(little(&[CASE_A, b"\0\0\0"].concat()));
     cases.push(little(&many()));
-    cases.extend(damage::cut_everywhere(&small(Order::Little, false)));
-    cases.extend(damage::cut_everywhere(&small(Order::Big, true)));
+    cases.extend(small_indexes().iter().map(Case::encoded));
     cases
+}
+
+/// The small indexes, cut at every byte: each time the whole one, and the one that is cut.
+pub fn cuts() -> Vec<(Case, Case)> {
+    let cuts = |section: &Section| {
+        let whole = Case::encoded(section);
+        damage::cut_everywhere(section).into_iter().map(move |cut| (whole.clone(), cut))
+    };
+    small_indexes().iter().flat_map(cuts).collect()
+}
+
+/// A small index in each format, one in each byte order.
+fn small_indexes() -> [Section; 2] {
+    [small(Order::Little, false), small(Order::Big, true)]
 }
 
 /// An index of 41 compile units and 50 names, and nothing else.

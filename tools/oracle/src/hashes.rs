@@ -59,7 +59,7 @@ fn bucket(lent: &Lent, index: &NameIndex<Bytes>, number: u32, out: &mut Answers)
         Ok(Some(mut cursor)) => {
             steps(lent, "next_in_bucket", out, || Ok(cursor.next()?.map(|(name, hash)| format!("{} {hash}", name.0))))
         }
-        Ok(None) => out.count("find_by_bucket: none", 0),
+        Ok(None) => out.kind("find_by_bucket: none"),
         Err(_) => {}
     }
 }
@@ -69,7 +69,7 @@ fn names_of_hash(lent: &Lent, index: &NameIndex<Bytes>, hash: u32, out: &mut Ans
     let cursor = index.find_by_hash(hash);
     let first = cursor.as_ref().map(|cursor| first_name(&format!("{cursor:?}"))).map_err(|error| *error);
     if let Ok("-") = first.as_deref() {
-        out.count("find_by_hash: none", 0);
+        out.kind("find_by_hash: none");
     }
     out.call(lent, "find_by_hash", &format!(" {hash}"), first);
     if let Ok(mut cursor) = cursor {
@@ -92,7 +92,7 @@ fn steps(lent: &Lent, call: &str, out: &mut Answers, mut next: impl FnMut() -> g
         if !step(lent, call, out, next()) {
             for _ in 0..AFTER_END {
                 if step(lent, call, out, next()) {
-                    out.count(&format!("{call}: after end"), 0);
+                    out.kind(&format!("{call}: after end"));
                 }
             }
             return;
@@ -104,7 +104,7 @@ fn steps(lent: &Lent, call: &str, out: &mut Answers, mut next: impl FnMut() -> g
 fn step(lent: &Lent, call: &str, out: &mut Answers, answer: gimli::Result<Option<String>>) -> bool {
     let more = matches!(answer, Ok(Some(_)));
     if more {
-        out.count(&format!("{call}: a name"), 0);
+        out.kind(&format!("{call}: a name"));
     }
     out.call(lent, call, "", answer.map(|name| name.unwrap_or("end".to_string())));
     more
@@ -118,7 +118,7 @@ fn check(lent: &Lent, index: &NameIndex<Bytes>, stored: &[u32], out: &mut Answer
         Some(count) => format!("missed {count}"),
     });
     if let Some(kind) = answer.as_ref().ok().and_then(|text| text.split(' ').next()) {
-        out.count(&format!("table: {kind}"), 0);
+        out.kind(&format!("table: {kind}"));
     }
     out.call(lent, "table", "", answer);
 }

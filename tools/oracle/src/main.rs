@@ -3,10 +3,10 @@
 //!     GIMLI_SRC=FOLDER cargo run --release -- OUTPUT_FOLDER
 //!
 //! README.md has the whole. What is where: `random`, the random numbers; `bytes`, numbers into bytes; `model`, what a section is
-//! made of; `valid`, valid sections; `damage`, damaged ones; `fixed`, `entries` and `tables`, sections that are not random; `case`, the
-//! file of sections; `lent`, the sections as gimli reads them and its errors as refusals; `answers`, the calls, `hashes`, those on hash
-//! tables, and `pool`, those on entries; `check`, what must hold of gimli and of the valid sections. The library of this package,
-//! src/lib.rs, is gimli.
+//! made of; `valid`, valid sections; `damage`, damaged ones; `fixed`, `entries` and `tables`, sections that are not random; `real`, those
+//! of compilers, linkers and gdb; `case`, the file of sections; `lent`, the sections as gimli reads them and its errors as refusals;
+//! `answers`, the calls, `hashes`, those on hash tables, and `pool`, those on entries; `check`, what must hold of gimli, of the valid
+//! sections and of the whole. The library of this package, src/lib.rs, is gimli.
 
 mod answers;
 mod bytes;
@@ -20,49 +20,74 @@ mod lent;
 mod model;
 mod pool;
 mod random;
+mod real;
 mod tables;
 mod valid;
 
 use std::path::Path;
 
-use answers::Answers;
+use answers::{Answers, CALLS, REFUSALS};
 use case::Case;
 use damage::Damage;
 use random::Random;
 
 const SEED: u64 = 0x0064_6562_7567_0005;
 
-/// How many random sections of each kind: valid ones, and damaged ones for each damage, fewer of them for those of hash tables.
-const VALID: usize = 200;
-const EACH_DAMAGE: usize = 18;
-const EACH_TABLE_DAMAGE: usize = 12;
+/// How many random sections of each kind: valid ones, and damaged ones for each damage.
+const VALID: usize = 300;
+const EACH_DAMAGE: usize = 56;
 
-/// Every case, in the order of the file.
-fn cases() -> Vec<Case> {
+/// The sections.
+struct Made {
+    /// In the order of the file.
+    cases: Vec<Case>,
+    /// How many of them are damaged, and how many of these gimli answers otherwise than the section before the damage.
+    damaged: usize,
+    otherwise: usize,
+}
+
+fn made() -> Made {
     let mut random = Random(SEED);
-    let mut cases = [fixed::cases(), entries::cases()].concat();
+    let mut made = Made { cases: fixed::cases(), damaged: 0, otherwise: 0 };
+    for (whole, cut) in fixed::cuts() {
+        made.add_damaged(&whole, cut);
+    }
+    made.cases.extend(entries::cases());
     for _ in 0..VALID {
         let case = Case::encoded(&valid::section(&mut random));
         check::valid(&case);
-        cases.push(case);
+        made.cases.push(case);
     }
-    cases.extend(damaged(&mut random, EACH_DAMAGE, &damage::DAMAGES));
-    cases.extend(damaged(&mut random, EACH_DAMAGE, &damage::ENTRY_DAMAGES));
-    cases.extend(damaged(&mut random, EACH_TABLE_DAMAGE, &damage::TABLE_DAMAGES));
-    cases.extend(tables::cases());
-    cases
-}
-
-/// Sections with each of the damages in turn, that many times.
-fn damaged(random: &mut Random, times: usize, damages: &[Damage]) -> Vec<Case> {
-    let mut cases = Vec::new();
-    for _ in 0..times {
-        for damage in damages {
-            let section = valid::section(random);
-            cases.push(damage(random, section));
+    for _ in 0..EACH_DAMAGE {
+        for damage in damage::DAMAGES.iter().chain(&damage::ENTRY_DAMAGES).chain(&damage::TABLE_DAMAGES) {
+            let (valid, case) = damaged(&mut random, *damage);
+            made.add_damaged(&valid, case);
         }
     }
-    cases
+    made.cases.extend(tables::cases());
+    made.cases.extend(real::cases());
+    made
+}
+
+impl Made {
+    /// Adds a section that was made from a valid one by a damage.
+    fn add_damaged(&mut self, valid: &Case, case: Case) {
+        self.damaged += 1;
+        self.otherwise += usize::from(answers::text(valid) != answers::text(&case));
+        self.cases.push(case);
+    }
+}
+
+/// A valid section, and the same with a damage, by which its bytes are other ones.
+fn damaged(random: &mut Random, damage: Damage) -> (Case, Case) {
+    loop {
+        let section = valid::section(random);
+        let valid = Case::encoded(&section);
+        let case = damage(random, section);
+        if case.names != valid.names || case.strings != valid.strings {
+            return (valid, case);
+        }
+    }
 }
 
 fn main() {
@@ -73,32 +98,36 @@ fn main() {
     };
     check::case_a();
 
-    let cases = cases();
-    let sections = case::file(&cases);
+    let made = made();
+    let sections = case::file(&made.cases);
     let mut answers = Answers::default();
-    for (number, case) in cases.iter().enumerate() {
+    for (number, case) in made.cases.iter().enumerate() {
         answers::ask(number, case, &mut answers);
     }
+    answers.totals(made.cases.len());
+    report(&made, &sections, &answers);
+    check::enough(made.cases.len(), made.otherwise, &answers);
 
     let folder = Path::new(folder);
     std::fs::create_dir_all(folder).expect("cannot make the folder");
     std::fs::write(folder.join("sections.bin"), &sections).expect("cannot write sections.bin");
     std::fs::write(folder.join("answers.txt"), &answers.text).expect("cannot write answers.txt");
-    report(&cases, &sections, &answers);
 }
 
 /// What was made: sizes, and how often each call was answered and refused.
-fn report(cases: &[Case], sections: &[u8], answers: &Answers) {
-    let longer = cases.iter().filter(|case| case.names.len() >= 300).count();
-    println!("{} sections, {longer} of 300 bytes or more, {} bytes in the file", cases.len(), sections.len());
+fn report(made: &Made, sections: &[u8], answers: &Answers) {
+    let longer = made.cases.iter().filter(|case| case.names.len() >= 300).count();
+    println!("{} sections, {longer} of 300 bytes or more, {} bytes in the file", made.cases.len(), sections.len());
+    println!("{} damaged, {} of them answered otherwise than before the damage", made.damaged, made.otherwise);
     println!("{} lines of answers, {} bytes", answers.text.lines().count(), answers.text.len());
-    for ((call, refusal), count) in &answers.tally {
-        match refusal {
-            0 => println!("{call:24} {count:6}"),
-            _ => println!("{call:24} {count:6} refused {refusal}"),
-        }
+    for number in REFUSALS {
+        println!("refused {number:16} {:6}", answers.refusals(number));
     }
-    for (refusal, count) in pool::refusals(&answers.tally) {
-        println!("{:24} {count:6} refused {refusal}", "all calls on entries");
+    for call in CALLS {
+        let (answered, refused) = answers.of_call(call);
+        println!("{call:24} {answered:6} answered {refused:6} refused");
+    }
+    for (kind, count) in &answers.kinds {
+        println!("{kind:24} {count:6}");
     }
 }

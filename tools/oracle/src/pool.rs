@@ -1,28 +1,14 @@
 //! gimli's answers to the calls on the entry pool of an index: the series of each name, and the entry at each handle with its facts.
 
-use std::collections::BTreeMap;
-
 use crate::answers::{Answers, MOST, or_none, type_unit};
 use crate::lent::{Bytes, Lent};
 use gimli::{NameEntry, NameEntryIter, NameEntryOffset, NameIndex, NameTableIndex};
 
 /// No more steps than this are made for a name; one more after the step that ends its series.
-const STEPS: usize = 6;
+const STEPS: usize = 12;
 
 /// The pool is asked for an entry at each offset up to its end, and no more than this one, and at the offset after that.
 const LAST: usize = 20;
-
-/// The calls.
-const CALLS: [&str; 8] = [
-    "name_entries",
-    "next",
-    "name_entry",
-    "entry_compile_unit",
-    "entry_type_unit",
-    "die_offset",
-    "parent",
-    "type_hash",
-];
 
 /// What is at a handle.
 type Entry<'e, 'a> = gimli::Result<&'e NameEntry<Bytes<'a>>>;
@@ -74,29 +60,34 @@ fn series(lent: &Lent, index: &NameIndex<Bytes>, pool: &Pool, number: u32, out: 
     let place = cursor.as_ref().map(|cursor| pool.place_of(cursor)).map_err(|error| *error);
     out.call(lent, "name_entries", &format!(" {number}"), place);
     if let Ok(cursor) = cursor {
-        steps(lent, cursor, out);
+        steps(lent, index, cursor, out);
     }
 }
 
-fn steps(lent: &Lent, mut cursor: NameEntryIter<Bytes>, out: &mut Answers) {
+fn steps<'a>(lent: &Lent, index: &NameIndex<Bytes<'a>>, mut cursor: NameEntryIter<Bytes<'a>>, out: &mut Answers) {
     for _ in 0..STEPS {
-        if !step(lent, &mut cursor, out) {
-            step(lent, &mut cursor, out);
+        if !step(lent, index, &mut cursor, out) {
+            step(lent, index, &mut cursor, out);
             return;
         }
     }
 }
 
-/// A step. It says whether there was an entry.
-fn step(lent: &Lent, cursor: &mut NameEntryIter<Bytes>, out: &mut Answers) -> bool {
+/// A step, and the facts of its entry where the handles do not go so far. It says whether there was an entry.
+fn step<'a>(lent: &Lent, index: &NameIndex<Bytes<'a>>, cursor: &mut NameEntryIter<Bytes<'a>>, out: &mut Answers) -> bool {
     let answer = cursor.next();
-    let more = matches!(answer, Ok(Some(_)));
-    let answer = answer.map(|entry| match entry {
-        Some(entry) => format!("{} {}", entry.offset.0, shown(&entry)),
+    let line = answer.as_ref().map_err(|error| *error).map(|entry| match entry {
+        Some(entry) => format!("{} {}", entry.offset.0, shown(entry)),
         None => "end".to_string(),
     });
-    out.call(lent, "next", "", answer);
-    more
+    out.call(lent, "next", "", line);
+    let Ok(Some(entry)) = answer else {
+        return false;
+    };
+    if entry.offset.0 > LAST + 1 {
+        facts(lent, index, &format!(" {}", entry.offset.0), Ok(&entry), out);
+    }
+    true
 }
 
 /// The code and the tag of an entry.
@@ -139,15 +130,4 @@ fn parent_of(parent: Option<NameEntryOffset>) -> String {
         Some(offset) => format!("entry {}", offset.0),
         None => "none".to_string(),
     }
-}
-
-/// How often each refusal was met by these calls, from how often each call met it.
-pub fn refusals(tally: &BTreeMap<(String, u8), usize>) -> BTreeMap<u8, usize> {
-    let mut all = BTreeMap::new();
-    for ((call, refusal), count) in tally {
-        if *refusal > 0 && CALLS.contains(&call.as_str()) {
-            *all.entry(*refusal).or_default() += count;
-        }
-    }
-    all
 }

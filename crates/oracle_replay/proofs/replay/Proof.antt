@@ -6,10 +6,10 @@ use Rattle.oracle_replay.proofs.replay.Statement.{statement}
 use Rattle.oracle_replay.proofs.replay.Tie as tie
 
 abbrev Inv-loop : tie.InvT-loop
-Inv-loop count number₀ number = 0 ≤ number
+Inv-loop count t₀ number₀ t number = 0 ≤ number
 
 abbrev μ-loop : tie.MeasureT-loop
-μ-loop count number₀ number = count - number
+μ-loop count t₀ number₀ t number = count - number
 
 loop-holds : tie.Need-loop-holds Inv-loop μ-loop
 loop-holds c = search needs

@@ -6,10 +6,10 @@ use Rattle.oracle_replay.proofs.hash_table.bucket_steps.Statement.{stat
 use Rattle.oracle_replay.proofs.hash_table.bucket_steps.Tie as tie
 
 abbrev Inv-loop : tie.InvT-loop
-Inv-loop order s index cursor₀ n₀ cursor n = 0 ≤ n
+Inv-loop order s index t₀ cursor₀ n₀ t cursor n = 0 ≤ n
 
 abbrev μ-loop : tie.MeasureT-loop
-μ-loop order s index cursor₀ n₀ cursor n = 8 - n
+μ-loop order s index t₀ cursor₀ n₀ t cursor n = 8 - n
 
 loop-holds : tie.Need-loop-holds Inv-loop μ-loop
 loop-holds c = search needs

@@ -6,10 +6,10 @@ use Rattle.oracle_replay.proofs.hash_table.hash_table.Statement.{statem
 use Rattle.oracle_replay.proofs.hash_table.hash_table.Tie as tie
 
 abbrev Inv-loop : tie.InvT-loop
-Inv-loop order s index number₀ number-end number = 0 ≤ number
+Inv-loop order s index t₀ number₀ number-end t number = 0 ≤ number
 
 abbrev μ-loop : tie.MeasureT-loop
-μ-loop order s index number₀ number-end number = number-end - number
+μ-loop order s index t₀ number₀ number-end t number = number-end - number
 
 bucket-count-requires : tie.Need-bucket-count-requires Inv-loop μ-loop
 bucket-count-requires c κs = search needs

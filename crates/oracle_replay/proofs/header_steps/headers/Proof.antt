@@ -7,10 +7,10 @@ use Rattle.oracle_replay.proofs.header_steps.headers.Statement.{stateme
 use Rattle.oracle_replay.proofs.header_steps.headers.Tie as tie
 
 abbrev Inv-loop : tie.InvT-loop
-Inv-loop order s strings at₀ at = 0 ≤ at
+Inv-loop order s strings t₀ at₀ t at = 0 ≤ at
 
 abbrev μ-loop : tie.MeasureT-loop
-μ-loop order s strings at₀ at = length s - at
+μ-loop order s strings t₀ at₀ t at = length s - at
 
 headers-requires : tie.Need-headers-requires Inv-loop μ-loop
 headers-requires c κs = search needs

@@ -6,10 +6,10 @@ use Rattle.oracle_replay.proofs.name_strings.each.Statement.{statement}
 use Rattle.oracle_replay.proofs.name_strings.each.Tie as tie
 
 abbrev Inv-loop : tie.InvT-loop
-Inv-loop order s strings index number₀ number-end number = 0 ≤ number
+Inv-loop order s strings index t₀ number₀ number-end t number = 0 ≤ number
 
 abbrev μ-loop : tie.MeasureT-loop
-μ-loop order s strings index number₀ number-end number = number-end - number
+μ-loop order s strings index t₀ number₀ number-end t number = number-end - number
 
 name-count-requires : tie.Need-name-count-requires Inv-loop μ-loop
 name-count-requires c κs = search needs

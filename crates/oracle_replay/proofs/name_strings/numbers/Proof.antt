@@ -6,10 +6,10 @@ use Rattle.oracle_replay.proofs.name_strings.numbers.Statement.{stateme
 use Rattle.oracle_replay.proofs.name_strings.numbers.Tie as tie
 
 abbrev Inv-loop : tie.InvT-loop
-Inv-loop s index at₀ at = 0 ≤ at
+Inv-loop s index t₀ at₀ t at = 0 ≤ at
 
 abbrev μ-loop : tie.MeasureT-loop
-μ-loop s index at₀ at = 40 - at
+μ-loop s index t₀ at₀ t at = 40 - at
 
 first-requires : tie.Need-first-requires Inv-loop μ-loop
 first-requires c κs = search needs

@@ -6,10 +6,10 @@ use Rattle.oracle_replay.proofs.pool.handles.Statement.{statement}
 use Rattle.oracle_replay.proofs.pool.handles.Tie as tie
 
 abbrev Inv-loop : tie.InvT-loop
-Inv-loop order s index refused₀ offset₀ offset-end refused offset = 0 ≤ offset
+Inv-loop order s index t₀ refused₀ offset₀ offset-end t refused offset = 0 ≤ offset
 
 abbrev μ-loop : tie.MeasureT-loop
-μ-loop order s index refused₀ offset₀ offset-end refused offset = offset-end - offset
+μ-loop order s index t₀ refused₀ offset₀ offset-end t refused offset = offset-end - offset
 
 fit-requires : tie.Need-fit-requires Inv-loop μ-loop
 fit-requires c κs = search needs

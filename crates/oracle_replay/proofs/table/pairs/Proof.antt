@@ -6,10 +6,10 @@ use Rattle.oracle_replay.proofs.table.pairs.Statement.{statement}
 use Rattle.oracle_replay.proofs.table.pairs.Tie as tie
 
 abbrev Inv-loop : tie.InvT-loop
-Inv-loop s from end at₀ at = 0 ≤ at
+Inv-loop s from end t₀ at₀ t at = 0 ≤ at
 
 abbrev μ-loop : tie.MeasureT-loop
-μ-loop s from end at₀ at = end - at
+μ-loop s from end t₀ at₀ t at = end - at
 
 loop-holds : tie.Need-loop-holds Inv-loop μ-loop
 loop-holds c = search needs

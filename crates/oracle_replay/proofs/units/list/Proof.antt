@@ -6,10 +6,10 @@ use Rattle.oracle_replay.proofs.units.list.Statement.{statement}
 use Rattle.oracle_replay.proofs.units.list.Tie as tie
 
 abbrev Inv-loop : tie.InvT-loop
-Inv-loop kind order s index number₀ number-end number = 0 ≤ number
+Inv-loop kind order s index t₀ number₀ number-end t number = 0 ≤ number
 
 abbrev μ-loop : tie.MeasureT-loop
-μ-loop kind order s index number₀ number-end number = number-end - number
+μ-loop kind order s index t₀ number₀ number-end t number = number-end - number
 
 asked-requires : tie.Need-asked-requires Inv-loop μ-loop
 asked-requires c κs = search needs
