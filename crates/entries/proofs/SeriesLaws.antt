@@ -12,7 +12,7 @@ use Rattle.reader.specs.Outcome.{Outcome, answered, refused, _>>=_, _>>_, refus
 use Rattle.reader.specs.Errors.{longest}
 use Rattle.reader.specs.Parts.{partEnd, leftAt, skipped, Forward}
 use Rattle.reader.specs.Numbers.{Read}
-use Rattle.reader.specs.Listing.{Listing, ended, broken, item, listed, listing, items, answersOf, Advances}
+use Rattle.reader.specs.Listing.{Listing, ended, broken, item, listed, listing, orBroken, items, answersOf, Advances}
 use Rattle.reader.specs.Steps.{Step, keeping}
 use Rattle.reader.specs.declared.endianity.RunTimeEndian.{RunTimeEndian}
 use Rattle.reader.specs.declared.common.NameTableIndex.{NameTableIndex}
@@ -32,7 +32,7 @@ use Rattle.entries.specs.Answers.{entryStepOf}
 use Rattle.entries.specs.Sanity.{poolLength, SeriesUnfold, SeriesShort, HandlesLead}
 use Rattle.entries.specs.Demand3.{EntryLookups}
 use Rattle.entries.specs.Entries.{Entry, orRefuse, entry, nameEntry, handed, nameEntryHanded, wholeOf, entryRead}
-use Rattle.entries.specs.Series.{seriesStart, seriesEntry, entriesFrom, series, begun, cursorAt, nameEntries, moved, entryStep}
+use Rattle.entries.specs.Series.{seriesStart, seriesEntry, entriesFrom, series, cursorAt, nameEntries, moved, entryStep}
 use Rattle.entries.proofs.EntryLaws.{entry-offset, entries-forward, pool-end}
 
 -- an entry of a series is one of the pool
@@ -60,11 +60,11 @@ unfolding entriesFrom
 series-step order s p at = listing-step (seriesEntry order s p) (λ e. e .next) (partEnd s (p .end)) (series-advances order s p) at
 
 -- at the pool's end nothing follows
-series-ended : (order : RunTimeEndian) (s : List ℕ) (p : Parts) → entriesFrom order s p (p .end) ≡ ended
+pub series-ended : (order : RunTimeEndian) (s : List ℕ) (p : Parts) → entriesFrom order s p (p .end) ≡ ended
 series-ended order s p = series-step order s p (p .end) ∙ rw (none-there order s p (p .end) (omega arith))
 
 -- what the start of a series says: the index fits, and the place lies in the pool or at its end
-start-answered : (order : RunTimeEndian) (s : List ℕ) (i : NameIndex) (name : NameTableIndex) (at : ℕ) → seriesStart order s i name ≡ answered at
+pub start-answered : (order : RunTimeEndian) (s : List ℕ) (i : NameIndex) (name : NameTableIndex) (at : ℕ) → seriesStart order s i name ≡ answered at
     → (length s ≤ longest) × Fits s i × (parts i .«entry_pool» ≤ at) × (at ≤ parts i .end)
 unfolding seriesStart
 start-answered order s i name at e =
@@ -80,7 +80,7 @@ pub series-short : SeriesShort
 unfolding series entriesFrom items
 series-short order s i name = by-start (seriesStart order s i name) refl
   where
-    by-start : (o : Outcome ℕ) → seriesStart order s i name ≡ o → items (begun o (entriesFrom order s (parts i))) ≤ poolLength i
+    by-start : (o : Outcome ℕ) → seriesStart order s i name ≡ o → items (orBroken o (entriesFrom order s (parts i))) ≤ poolLength i
     by-start (answered at) e =
         let (short, (pool, ends), above, below) = start-answered order s i name at e in
         let turns : ℕ = partEnd s (parts i .end) - at in

@@ -6,7 +6,7 @@ use mathlib.Core.Option.{Option, some, none}
 use lib.Dec.{ltb, eqb}
 use Rattle.reader.specs.Outcome.{Outcome, answered, refused, _>>=_, _>>_, refuseIf}
 use Rattle.reader.specs.Parts.{partEnd, leftAt, skipped}
-use Rattle.reader.specs.Listing.{Listing, broken, listing}
+use Rattle.reader.specs.Listing.{Listing, listing, orBroken}
 use Rattle.reader.specs.Steps.{Step, keeping}
 use Rattle.reader.specs.declared.endianity.RunTimeEndian.{RunTimeEndian}
 use Rattle.reader.specs.declared.common.NameTableIndex.{NameTableIndex}
@@ -35,12 +35,8 @@ entriesFrom order s p at = listing (seriesEntry order s p) (λ e. e .next) (part
 
 -- The series of a name: the entries from its entry offset on. Where there is no such place in the pool, it is broken off at once, with
 -- that refusal.
-abbrev pub begun : {A : Type 0} → Outcome ℕ → (ℕ → Listing A) → Listing A
-begun (answered at) from = from at
-begun (refused n v) from = broken n v
-
 unfoldable pub series : RunTimeEndian → List ℕ → NameIndex → NameTableIndex → Listing Entry
-series order s i name = begun (seriesStart order s i name) (entriesFrom order s (parts i))
+series order s i name = orBroken (seriesStart order s i name) (entriesFrom order s (parts i))
 
 -- a cursor at a place
 abbrev pub cursorAt : ℕ → NameEntryIter

@@ -8,7 +8,7 @@ use native.Mathlib.Omega.{arith}
 use lib.Dec.{eqb}
 use Rattle.reader.specs.Outcome.{Outcome, answered, refused, _>>=_}
 use Rattle.reader.specs.Parts.{partEnd, leftAt}
-use Rattle.reader.specs.Listing.{listed}
+use Rattle.reader.specs.Listing.{listed, orBroken, counted}
 use Rattle.reader.specs.declared.endianity.RunTimeEndian.{RunTimeEndian}
 use Rattle.reader.specs.declared.common.NameTableIndex.{NameTableIndex}
 use Rattle.index.specs.declared.layout.NameIndex.{NameIndex}
@@ -16,30 +16,13 @@ use Rattle.index.specs.declared.layout.Parts.{Parts}
 use Rattle.index.specs.Layout.{parts, fitted}
 use Rattle.entries.specs.declared.entry.WholeEntry.{WholeEntry}
 use Rattle.entries.specs.Entries.{Entry, entry, entryRead, wholeOf}
-use Rattle.entries.specs.Series.{seriesStart, seriesEntry, entriesFrom, begun, series, cursorAt, nameEntries}
+use Rattle.entries.specs.Series.{seriesStart, seriesEntry, entriesFrom, series, cursorAt, nameEntries}
 use Rattle.entries.proofs.EntryLaws.{entries-forward}
 use Rattle.entries.proofs.SeriesLaws.{series-step}
 use Rattle.index.proofs.LayoutLaws.{fitted-answered}
 use Rattle.reader.proofs.OutcomeLaws.{refused-answered, same-answer}
-use Rattle.listing.specs.Names.{counted, entryCount}
-
--- that many, and those that are counted
-unfoldable pub plus : ℕ → Outcome ℕ → Outcome ℕ
-plus k o = o >>= λ n. answered (k + n)
-
-pub plus-none : (o : Outcome ℕ) → o ≡ plus 0 o
-unfolding plus
-plus-none (answered n) = ap (λ n. answered n) (omega arith)
-plus-none (refused n v) = refl
-
-pub plus-end : (k : ℕ) → plus k (answered 0) ≡ answered k
-unfolding plus
-plus-end k = ap (λ n. answered n) (omega arith)
-
-pub plus-plus : (k : ℕ) (o : Outcome ℕ) → plus k (plus 1 o) ≡ plus (k + 1) o
-unfolding plus
-plus-plus k (answered n) = ap (λ n. answered n) (omega arith)
-plus-plus k (refused n v) = refl
+use Rattle.reader.proofs.ListingLaws.{plus}
+use Rattle.listing.specs.Names.{entryCount}
 
 -- what is counted from an entry on that was read
 unfoldable pub countAfter : (ℕ → Outcome ℕ) → Outcome (Option WholeEntry) → Outcome ℕ
@@ -81,7 +64,7 @@ count-started order s i name p given =
     let (short, fits, same) = fitted-answered s i p (sym given) in
     rw same (by-start (seriesStart order s i name))
   where
-    by-start : (o : Outcome ℕ) → counted (begun o (entriesFrom order s (parts i))) ≡ ((o >>= λ place. answered (cursorAt place)) >>= λ c. counted (entriesFrom order s (parts i) (c .at)))
+    by-start : (o : Outcome ℕ) → counted (orBroken o (entriesFrom order s (parts i))) ≡ ((o >>= λ place. answered (cursorAt place)) >>= λ c. counted (entriesFrom order s (parts i) (c .at)))
     by-start (answered at) = refl
     by-start (refused n v) = refl
 

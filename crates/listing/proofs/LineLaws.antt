@@ -12,7 +12,7 @@ use borrow.Author.Tests.{ltb-false, le-ltb}
 use Rattle.reader.specs.Outcome.{Outcome, answered, refused, _>>=_, _>>_, refuseIf}
 use Rattle.reader.specs.Errors.{longest}
 use Rattle.reader.specs.Steps.{Step, keeping}
-use Rattle.reader.specs.Listing.{Listing, ended, broken, item, listed, answersOf}
+use Rattle.reader.specs.Listing.{Listing, ended, broken, item, listed, orBroken, answersOf}
 use Rattle.reader.specs.declared.endianity.RunTimeEndian.{RunTimeEndian}
 use Rattle.reader.proofs.OutcomeLaws.{refused-answered}
 use Rattle.reader.proofs.ListLaws.{false-true}
@@ -31,7 +31,7 @@ use Rattle.listing.specs.declared.lines.Line.{Line}
 use Rattle.listing.specs.declared.lines.ListingIter.{ListingIter}
 use Rattle.listing.specs.Names.{nameLine}
 use Rattle.listing.specs.Indexes.{openedIndex}
-use Rattle.listing.specs.Lines.{orEnd, nameLines, headerLines, sectionLines, firstLine, endedAt, pastName, pastIndex, lineOr, headerLine, headStep, lineStep}
+use Rattle.listing.specs.Lines.{nameLines, headerLines, sectionLines, firstLine, endedAt, pastName, pastIndex, lineOr, headerLine, headStep, lineStep}
 use Rattle.listing.specs.Answers.{lineStepOf}
 use Rattle.listing.specs.Listed.{LinesListed}
 
@@ -50,7 +50,7 @@ step-short order s c h = tested (ltb longest (length s)) refl
 module _ (order : RunTimeEndian) (s : List ℕ) where
   -- the lines of the headers from a place on
   abbrev linesAt : ℕ → ℕ → Listing Line
-  linesAt count at = orEnd (refuseIf (ltb longest (length s)) 13 0) λ u. headerLines order s count (headersFrom order s at)
+  linesAt count at = orBroken (refuseIf (ltb longest (length s)) 13 0) λ u. headerLines order s count (headersFrom order s at)
 
   -- the lines that a cursor has left
   abbrev remaining : ListingIter → Listing Line
@@ -93,7 +93,7 @@ module _ (order : RunTimeEndian) (s : List ℕ) where
 
       by-opened : (h : NameIndexHeader) (o : Outcome Opened) → header order s (c .at) ≡ answered h → openedIndex order s h ≡ o → ltb longest (length s) ≡ false
           → lineStep order s c ≡ lineOr c o (λ o. record { answer = answered (some (Line.Index (o .line))); cursor = pastIndex c h (o .index) })
-          → left c ≡ answersOf (λ l. l) (orEnd o λ o. item (Line.Index (o .line)) (nameLines order s (o .index) (namesFrom (o .index) 0) (headerLines order s (c .listed + 1) (headersFrom order s (h .content .end)))))
+          → left c ≡ answersOf (λ l. l) (orBroken o λ o. item (Line.Index (o .line)) (nameLines order s (o .index) (namesFrom (o .index) 0) (headerLines order s (c .listed + 1) (headersFrom order s (h .content .end)))))
           → NextLine c
       by-opened h (answered o) read opened short went has =
           let (ahead, begins, ends) = header-fits order s (c .at) h read in
@@ -118,7 +118,7 @@ module _ (order : RunTimeEndian) (s : List ℕ) where
     where
       by-name : (o : Outcome NameLine) → c .done ≡ false → nameLine order s (c .index) (c .name) ≡ o → (c .at ≤ length s) × (c .listed ≤ c .at)
           → lineStep order s c ≡ lineOr c o (λ l. record { answer = answered (some (Line.Name l)); cursor = pastName c })
-          → left c ≡ answersOf (λ l. l) (orEnd o λ l. item (Line.Name l) (nameLines order s (c .index) (namesFrom (c .index) (c .name .0 + 1)) (linesAt (c .listed) (c .at))))
+          → left c ≡ answersOf (λ l. l) (orBroken o λ l. item (Line.Name l) (nameLines order s (c .index) (namesFrom (c .index) (c .name .0 + 1)) (linesAt (c .listed) (c .at))))
           → NextLine c
       by-name (answered l) still line bounds went has = gives-line c (Line.Name l) (pastName c) _ went has refl (inr bounds)
       by-name (refused n v) still line bounds went has = gives-end c n v went has

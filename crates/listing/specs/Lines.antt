@@ -8,7 +8,7 @@ use lib.Dec.{ltb, leb}
 use Rattle.reader.specs.Outcome.{Outcome, answered, refused, refuseIf}
 use Rattle.reader.specs.Errors.{longest}
 use Rattle.reader.specs.Steps.{Step}
-use Rattle.reader.specs.Listing.{Listing, ended, broken, item}
+use Rattle.reader.specs.Listing.{Listing, ended, broken, item, orBroken}
 use Rattle.reader.specs.declared.endianity.RunTimeEndian.{RunTimeEndian}
 use Rattle.reader.specs.declared.common.Format.{Format}
 use Rattle.headers.specs.declared.header.NameIndexHeader.{NameIndexHeader}
@@ -20,15 +20,10 @@ use Rattle.listing.specs.declared.lines.ListingIter.{ListingIter}
 use Rattle.listing.specs.Names.{nameLine}
 use Rattle.listing.specs.Indexes.{openedIndex}
 
--- a refusal stands in the place of its line, and ends the listing
-abbrev pub orEnd : {A : Type 0} → Outcome A → (A → Listing Line) → Listing Line
-orEnd (answered a) more = more a
-orEnd (refused n v) more = broken n v
-
--- the lines of these names of an index, and what comes after them
+-- the lines of these names of an index, and what comes after them; a refusal stands in the place of its line, and ends the listing
 unfoldable pub nameLines : RunTimeEndian → List ℕ → NameIndex → List ℕ → Listing Line → Listing Line
 nameLines order s i [] after = after
-nameLines order s i (n ∷ ns) after = orEnd (nameLine order s i (record { 0 = n })) λ l. item (Line.Name l) (nameLines order s i ns after)
+nameLines order s i (n ∷ ns) after = orBroken (nameLine order s i (record { 0 = n })) λ l. item (Line.Name l) (nameLines order s i ns after)
 
 -- the lines of these headers, where that many indexes were listed before them: for each its own line and those of its names in order, and
 -- after the last how many there were
@@ -36,11 +31,11 @@ unfoldable pub headerLines : RunTimeEndian → List ℕ → ℕ → Listing Name
 headerLines order s listed ended = item (Line.Indexes listed) ended
 headerLines order s listed (broken n v) = broken n v
 headerLines order s listed (item h rest) =
-    orEnd (openedIndex order s h) λ o. item (Line.Index (o .line)) (nameLines order s (o .index) (namesFrom (o .index) 0) (headerLines order s (listed + 1) rest))
+    orBroken (openedIndex order s h) λ o. item (Line.Index (o .line)) (nameLines order s (o .index) (namesFrom (o .index) 0) (headerLines order s (listed + 1) rest))
 
 -- the lines of a section
 unfoldable pub sectionLines : RunTimeEndian → List ℕ → Listing Line
-sectionLines order s = orEnd (refuseIf (ltb longest (length s)) 13 0) λ u. headerLines order s 0 (headersFrom order s 0)
+sectionLines order s = orBroken (refuseIf (ltb longest (length s)) 13 0) λ u. headerLines order s 0 (headersFrom order s 0)
 
 -- the cursor before the first line: no index is open
 unfoldable pub firstLine : ListingIter

@@ -6,7 +6,7 @@ use lib.Dec.{eqb}
 use Rattle.reader.specs.Outcome.{Outcome, answered, refused, _>>=_}
 use Rattle.reader.specs.Parts.{skipped}
 use Rattle.reader.specs.Numbers.{readNumber}
-use Rattle.reader.specs.Listing.{Listing, ended, broken, item}
+use Rattle.reader.specs.Listing.{counted}
 use Rattle.reader.specs.declared.endianity.RunTimeEndian.{RunTimeEndian}
 use Rattle.reader.specs.declared.common.NameTableIndex.{NameTableIndex}
 use Rattle.index.specs.declared.layout.NameIndex.{NameIndex}
@@ -26,14 +26,6 @@ nameHash order s i name = do
         place ← skipped (4 * name .0) s (p .«hash_table_data») (p .«name_table_data»)
         hash ← readNumber 4 order s place (p .«name_table_data»)
         answered (NameHash.Some (hash .value)))
-
--- how many items a list has; one that is broken off is refused
-unfoldable pub counted : {A : Type 0} → Listing A → Outcome ℕ
-counted ended = answered 0
-counted (broken n v) = refused n v
-counted (item a rest) = do
-  n ← counted rest
-  answered (1 + n)
 
 -- how many entries the series of a name has
 unfoldable pub entryCount : RunTimeEndian → List ℕ → NameIndex → NameTableIndex → Outcome ℕ

@@ -11,7 +11,7 @@ use Rattle.reader.specs.Parts.{skipped, cut}
 use Rattle.reader.specs.Numbers.{digits, spelled, Bytes, no-bytes, byte-then, numberAt, readNumber, readByte, initialLength}
 use Rattle.leb128.specs.Leb128.{leb128, numberOfBytes, numberBytes, someBeyond, beyond, complete, base128}
 use Rattle.strings.specs.Strings.{beforeZero, zeroFrom, getStr, textBytes}
-use Rattle.reader.specs.Listing.{listing, answersOf}
+use Rattle.reader.specs.Listing.{listing, counted, answersOf}
 use Rattle.reader.specs.Steps.{no-steps, step-then}
 use Rattle.abbreviations.specs.Abbreviations.{pair, attributesIn, attributes, head, withAttributes, declaration, table, ending, parsed, find, found}
 use Rattle.headers.specs.Header.{headerCut, counts, augmentation, headerBody, header}
@@ -31,7 +31,7 @@ use Rattle.hashes.specs.Table.{nthOf, storedStart, storedHash, bucketOf, namesF
 use Rattle.hashes.specs.Lookups.{findByBucket, findByHash, firstOr, nextInBucket, nextStoring, bucketStep, hashStep}
 use Rattle.headers.specs.Headers.{headerAt, headersFrom}
 use Rattle.tables.specs.Check.{startAbove, anyAbove, isMissed, missedNames, verdict, tableCheck}
-use Rattle.listing.specs.Names.{nameHash, counted, entryCount, nameLine}
+use Rattle.listing.specs.Names.{nameHash, entryCount, nameLine}
 use Rattle.listing.specs.Indexes.{missedIn, openedIndex}
 use Rattle.listing.specs.Lines.{nameLines, headerLines, sectionLines}
 use Rattle.p_cases.specs.CaseA.{caseA, stringsA, headerA, indexA, partsA, HeaderOfA, OpensA, PartsOfA, FitsA, UnitsOfA, StringsOfA, BytesOfA, AbbreviationsOfA, CursorsOfA, SeriesOfA, StepsOfA, FactsOfA, BucketsOfA, RunsOfA, BucketStepsOfA, HashOfA, HashStepsOfA, LentA, ListingOfA}

@@ -6,9 +6,10 @@ use mathlib.Core.Path.{_≡_, sym}
 use native.Mathlib.Omega.{arith}
 use Rattle.reader.specs.Parts.{leftAt}
 use Rattle.entries.specs.Series.{entriesFrom}
-use Rattle.listing.proofs.CountLaws.{plus, plus-none, plus-end, plus-plus, countAfter, count-step, read-forward, count-started, count-refused}
+use Rattle.listing.proofs.CountLaws.{countAfter, count-step, read-forward, count-started, count-refused}
 use borrow.Author.Needs.{needs}
-use Rattle.listing.specs.Names.{counted}
+use Rattle.reader.specs.Listing.{counted}
+use Rattle.reader.proofs.ListingLaws.{plus, plus-none, plus-end, plus-plus}
 use Rattle.listing.proofs.name.entry_count.Statement.{statement}
 use Rattle.listing.proofs.name.entry_count.Tie as tie
 

@@ -1,0 +1,7 @@
+-- The section query in one index. Candidates: the names to look at. Matching: those of them whose string is the name. Records: the records of
+-- an index. Answers: what each answer of the code leaves. Sanity: what a reader of the definitions may want to be sure of.
+pub mod Candidates
+pub mod Matching
+pub mod Records
+pub mod Answers
+pub mod Sanity

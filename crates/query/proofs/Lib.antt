@@ -1,0 +1,6 @@
+-- Laws of the definitions. Callers cite these, and do not unfold.
+pub mod After
+pub mod Runs
+pub mod WalkLaws
+pub mod BoundLaws
+pub mod FillLaws

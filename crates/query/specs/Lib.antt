@@ -1,0 +1,6 @@
+-- The section query. Records: the records of a section. Query: what the query answers and writes. Answers: what each answer of the code leaves.
+-- Sanity: what a reader of the definitions may want to be sure of.
+pub mod Records
+pub mod Query
+pub mod Answers
+pub mod Sanity

@@ -1,0 +1,5 @@
+-- What is shown of an entry. Units: the choice of its unit. Records: its record, where it stands and what is shown. Answers: the outcome of
+-- each answer.
+pub mod Units
+pub mod Records
+pub mod Answers
