@@ -23,7 +23,8 @@ use Rattle.strings.proofs.StringLaws.{str-answered}
 use Rattle.names.specs.Names.{nameString, nameStringOffset}
 use Rattle.index_query.specs.Candidates.{candidatesFrom, candidatesAt}
 use Rattle.index_query.specs.Sanity.{SameExactly}
-use Rattle.index_query.specs.Matching.{sameBytes, textIs, nameMatches, matching, matchesAt}
+use Rattle.index_query.specs.Matching.{sameBytes, textIs, nameMatches, matching}
+use Rattle.index_query.specs.Records.{matchesAt}
 
 -- lists of other lengths are not the same
 pub other-length : (a b : List ℕ) → (length a ≡ length b → ⊥) → sameBytes a b ≡ false

@@ -37,8 +37,10 @@ use Rattle.records.specs.declared.record.Record.{Record}
 use Rattle.records.specs.Records.{Where, entryRecord}
 use Rattle.index_query.specs.declared.series.IndexIter.{IndexIter}
 use Rattle.index_query.specs.Candidates.{candidates, candidatesFrom, candidatesAt}
-use Rattle.index_query.specs.Matching.{nameMatches, matching, matchesAt}
-use Rattle.index_query.specs.Records.{recordOfEntry, seriesRecords, allSeries, indexRecords, entryRecords, recordsAt, indexLeft}
+use Rattle.index_query.specs.Matching.{nameMatches, matching}
+use Rattle.index_query.specs.Records.{matchesAt}
+use Rattle.index_query.specs.Series.{recordOfEntry, seriesRecords}
+use Rattle.index_query.specs.Records.{allSeries, indexRecords, entryRecords, recordsAt, indexLeft}
 
 -- a section within the limit of refusal 13 has places of 32 bits
 pub places-small : longest < 2 ^ 32

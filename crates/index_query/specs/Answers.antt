@@ -18,8 +18,7 @@ use Rattle.index_query.specs.declared.series.PoolRecord.{PoolRecord}
 use Rattle.index_query.specs.declared.series.StartRead.{StartRead}
 use Rattle.index_query.specs.declared.series.IndexStep.{IndexStep}
 use Rattle.index_query.specs.Candidates.{candidatesFrom}
-use Rattle.index_query.specs.Matching.{matchesAt}
-use Rattle.index_query.specs.Records.{entryRecords, indexLeft}
+use Rattle.index_query.specs.Records.{matchesAt, entryRecords, indexLeft}
 
 abbrev pub firstLeft : RunTimeEndian → List ℕ → NameIndex → ℕ → FirstCandidate → Outcome (List ℕ)
 firstLeft order s i hash (FirstCandidate.From from) = answered (candidatesFrom order s i hash from)

@@ -11,7 +11,6 @@ use Rattle.reader.specs.declared.endianity.RunTimeEndian.{RunTimeEndian}
 use Rattle.index.specs.declared.layout.NameIndex.{NameIndex}
 use Rattle.strings.specs.Strings.{Text}
 use Rattle.names.specs.Names.{nameString}
-use Rattle.index_query.specs.Candidates.{candidatesAt}
 
 -- whether two lists of bytes are the same
 unfoldable pub sameBytes : List ℕ → List ℕ → Bool
@@ -34,7 +33,3 @@ nameMatches order s strs i text name = do
 unfoldable pub matching : (ℕ → Outcome Bool) → List ℕ → Listing ℕ
 matching test [] = ended
 matching test (n ∷ ns) = orBroken (test n) λ holds. cond holds (item n (matching test ns)) (matching test ns)
-
--- those among the candidates from a number on
-unfoldable pub matchesAt : RunTimeEndian → List ℕ → List ℕ → NameIndex → ℕ → List ℕ → ℕ → Listing ℕ
-matchesAt order s strs i hash text from = orBroken (candidatesAt order s i hash from) (matching (nameMatches order s strs i text))

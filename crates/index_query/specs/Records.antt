@@ -2,28 +2,17 @@
 -- that is asked for, and `offset` is the place of the index in the section.
 use Prim.Native.Nat.{ℕ}
 use mathlib.Core.List.{List}
-use Rattle.reader.specs.Outcome.{Outcome}
 use Rattle.reader.specs.Listing.{Listing, ended, broken, item, orBroken, followedBy, shownBy}
 use Rattle.reader.specs.declared.endianity.RunTimeEndian.{RunTimeEndian}
 use Rattle.index.specs.declared.layout.NameIndex.{NameIndex}
 use Rattle.index.specs.declared.layout.Parts.{Parts}
 use Rattle.index.specs.Layout.{fitted}
-use Rattle.attributes.specs.Attributes.{facts}
-use Rattle.entries.specs.Entries.{Entry}
-use Rattle.entries.specs.Series.{entriesFrom, series}
+use Rattle.entries.specs.Series.{entriesFrom}
 use Rattle.records.specs.declared.record.Record.{Record}
-use Rattle.records.specs.Records.{entryRecord}
 use Rattle.index_query.specs.declared.series.IndexIter.{IndexIter}
-use Rattle.index_query.specs.Candidates.{candidates}
-use Rattle.index_query.specs.Matching.{nameMatches, matching, matchesAt}
-
--- the record of an entry in the series of a name
-unfoldable pub recordOfEntry : RunTimeEndian → List ℕ → ℕ → NameIndex → ℕ → Entry → Outcome Record
-recordOfEntry order s offset i name e = entryRecord order s i (record { index = offset; name = name; entry = e .offset }) (e .tag) (facts (e .attributes))
-
--- the records of the series of a name: each entry is read whole, then its unit, then its DIE offset
-unfoldable pub seriesRecords : RunTimeEndian → List ℕ → ℕ → NameIndex → ℕ → Listing Record
-seriesRecords order s offset i name = shownBy (recordOfEntry order s offset i name) (series order s i (record { 0 = name }))
+use Rattle.index_query.specs.Candidates.{candidates, candidatesAt}
+use Rattle.index_query.specs.Matching.{nameMatches, matching}
+use Rattle.index_query.specs.Series.{recordOfEntry, seriesRecords}
 
 -- the records of the series of these names, one after another
 unfoldable pub allSeries : RunTimeEndian → List ℕ → ℕ → NameIndex → Listing ℕ → Listing Record
@@ -35,13 +24,17 @@ allSeries order s offset i (item name rest) = followedBy (seriesRecords order s 
 unfoldable pub indexRecords : RunTimeEndian → List ℕ → List ℕ → ℕ → List ℕ → ℕ → NameIndex → Listing Record
 indexRecords order s strs hash text offset i = orBroken (candidates order s i hash) λ names. allSeries order s offset i (matching (nameMatches order s strs i text) names)
 
--- What single functions of the code leave. The records of the entries from a place on, in the series of a name.
-unfoldable pub entryRecords : RunTimeEndian → List ℕ → ℕ → NameIndex → Parts → ℕ → ℕ → Listing Record
-entryRecords order s offset i p name at = shownBy (recordOfEntry order s offset i name) (entriesFrom order s p at)
+-- What single functions of the code leave. The names that match among the candidates from a number on,
+unfoldable pub matchesAt : RunTimeEndian → List ℕ → List ℕ → NameIndex → ℕ → List ℕ → ℕ → Listing ℕ
+matchesAt order s strs i hash text from = orBroken (candidatesAt order s i hash from) (matching (nameMatches order s strs i text))
 
--- the records of the candidates from a number on
+-- and the records of their series;
 unfoldable pub recordsAt : RunTimeEndian → List ℕ → List ℕ → ℕ → List ℕ → ℕ → NameIndex → ℕ → Listing Record
 recordsAt order s strs hash text offset i from = allSeries order s offset i (matchesAt order s strs i hash text from)
+
+-- the records of the entries from a place on, in the series of a name.
+unfoldable pub entryRecords : RunTimeEndian → List ℕ → ℕ → NameIndex → Parts → ℕ → ℕ → Listing Record
+entryRecords order s offset i p name at = shownBy (recordOfEntry order s offset i name) (entriesFrom order s p at)
 
 -- the records that a cursor has left: those of its series, and those of the candidates after it
 unfoldable pub indexLeft : RunTimeEndian → List ℕ → List ℕ → ℕ → List ℕ → ℕ → NameIndex → IndexIter → Listing Record

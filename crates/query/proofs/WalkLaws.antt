@@ -31,7 +31,8 @@ use Rattle.records.specs.declared.record.Record.{Record}
 use Rattle.entries.proofs.EntryLaws.{pool-end}
 use Rattle.index_query.specs.declared.series.IndexIter.{IndexIter}
 use Rattle.index_query.specs.Candidates.{candidatesFrom, candidatesAt}
-use Rattle.index_query.specs.Matching.{matching, matchesAt}
+use Rattle.index_query.specs.Matching.{matching}
+use Rattle.index_query.specs.Records.{matchesAt}
 use Rattle.index_query.specs.Records.{allSeries, indexRecords, recordsAt, indexLeft}
 use Rattle.index_query.proofs.RecordLaws.{records-ended, left-fits}
 use Rattle.query.specs.declared.walk.QueryIter.{QueryIter}

@@ -257,5 +257,27 @@ module _ (order : RunTimeEndian) (s : List ℕ) (i : NameIndex) where
         let buckets : 0 < i .«bucket_count» = omega arith in
         rw (fitted-fits s i short fits, ne-eqb (i .«bucket_count») 0 (λ e. omega (arith, e)), none-above, nothing fits buckets)
 
+-- so the names of each hash in a complete table are all names that store it
+pub complete-names : (order : RunTimeEndian) (s : List ℕ) (i : NameIndex) → tableCheck order s i ≡ answered complete → (0 < i .«bucket_count») × ((hash : ℕ) → namesOfHash order s i hash ≡ allStoring order s i hash)
+complete-names order s i e =
+    let (short, fits, buckets, none-above, nothing) = check-complete order s i e in
+    (buckets, names-all order s i (none-missed order s i nothing))
+
+-- and an index that the check says has no table has no buckets
+pub no-table-buckets : (order : RunTimeEndian) (s : List ℕ) (i : NameIndex) → tableCheck order s i ≡ answered no-table → i .«bucket_count» ≡ 0
+unfolding tableCheck verdict
+no-table-buckets order s i e =
+    let (p, given, rest) = bind-answered (fitted s i) _ no-table e in
+    ⊎-elim
+    (λ (here, same). eqb-true (i .«bucket_count») 0 here)
+    (λ (here, more).
+    let (u, inside, said) = then-answered (refuseIf (anyAbove (i .«name_count») (storedStart order s p) (i .«bucket_count»)) 1 (p .«hash_table_data»)) _ no-table more in
+    absurd (by-missed (eqb (length (missedNames order s i)) 0) (same-answer said)))
+    (cond-is (eqb (i .«bucket_count») 0) _ _ (answered no-table) rest)
+  where
+    by-missed : (t : Bool) → cond t complete (incomplete (length (missedNames order s i))) ≡ no-table → ⊥
+    by-missed true h = let z : _≡_ {A = ℕ} 0 1 = cc in omega arith
+    by-missed false h = let z : _≡_ {A = ℕ} 0 1 = cc in omega arith
+
 pub complete-exactly : CompleteExactly
 complete-exactly order s i bytes small = (λ e hash below. complete-lists order s i (sym e) hash, λ all. sym (lists-complete order s i bytes small all))

@@ -3,10 +3,11 @@
 use mathlib.Core.Path.{_≡_, refl}
 use lib.ListN.{length}
 use Rattle.index_query.specs.Candidates.{candidatesFrom}
-use Rattle.index_query.specs.Matching.{matchesAt}
+use Rattle.index_query.specs.Records.{matchesAt}
 use Rattle.index_query.proofs.MatchLaws.{matches-name, matches-none, matches-refused, fewer-left}
 use borrow.Author.Needs.{needs}
-use Rattle.index_query.specs.Matching.{matchesAt, matching}
+use Rattle.index_query.specs.Records.{matchesAt}
+use Rattle.index_query.specs.Matching.{matching}
 use Rattle.index_query.proofs.matching.next_match.Statement.{statement}
 use Rattle.index_query.proofs.matching.next_match.Tie as tie
 

@@ -3,10 +3,11 @@
 use mathlib.Core.Path.{_≡_, refl, sym, _∙_}
 use Rattle.index_query.proofs.RecordLaws.{short-fits, left-fits, next-series, series-refused, none-left, match-refused, fewer-matches}
 use Rattle.reader.specs.Listing.{followedBy, items}
-use Rattle.index_query.specs.Matching.{matchesAt}
+use Rattle.index_query.specs.Records.{matchesAt}
 use Rattle.index_query.specs.Records.{indexLeft}
 use borrow.Author.Needs.{needs}
-use Rattle.index_query.specs.Records.{indexLeft, recordsAt, allSeries, seriesRecords, recordOfEntry}
+use Rattle.index_query.specs.Records.{indexLeft, recordsAt, allSeries}
+use Rattle.index_query.specs.Series.{seriesRecords, recordOfEntry}
 use Rattle.index_query.proofs.series.IndexIter.next.Statement.{statement}
 use Rattle.index_query.proofs.series.IndexIter.next.Tie as tie
 
