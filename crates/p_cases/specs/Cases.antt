@@ -12,7 +12,9 @@ use Rattle.entries.specs.declared.entry.NameEntry.{NameEntry}
 use Rattle.entries.specs.Entries.{nameEntryHanded}
 use Rattle.hashes.specs.Table.{namesOfHash}
 use Rattle.tables.specs.Check.{Checked, complete, incomplete, tableCheck}
+use Rattle.query.specs.Query.{Queried}
 use Rattle.p_cases.specs.CaseA.{caseA, indexA, secondStart}
+use Rattle.p_cases.specs.Queries.{queryOfA, foundInA}
 
 -- what a case asks for
 pub data Answer : Type 0 where
@@ -20,6 +22,7 @@ pub data Answer : Type 0 where
   entry : Outcome NameEntry → Answer
   names : List ℕ → Answer
   check : Outcome Checked → Answer
+  query : Queried → Answer
 
 -- `leb128::read::unsigned` and `leb128::read::u16` at the start of these bytes
 abbrev unsigned : List ℕ → Answer
@@ -56,10 +59,12 @@ given =
     ∷ checkOfA (secondStart 3)
     ∷ checkOfA (secondStart 4)
     ∷ checkOfA (secondStart 5)
+    ∷ query queryOfA
     ∷ []
 
 -- nine ff then 01 is 2^64-1, then 02 is 7; as u16, ff ff 03 is 65535, ff ff 04 is 7; entry 5 is 10; entry 18 is 1 at 109; entry 19
--- is 1 at 91; hash 4 lists 0; 9 lists 2; 6 lists none; missed is 0 (complete); second start 3 makes it 1, 4 makes it 2, 5 refuses 1 at 48
+-- is 1 at 91; hash 4 lists 0; 9 lists 2; 6 lists none; missed is 0 (complete); second start 3 makes it 1, 4 makes it 2, 5 refuses 1 at 48; the
+-- query (7, "de") has total 1 and the record 0, 6, name 1, tag 0x2e, kind 1, value 0, DIE 0x20
 abbrev pub expected : List Answer
 expected =
     number (answered (record { value = 18446744073709551615; next = 10 }))
@@ -76,6 +81,7 @@ expected =
     ∷ check (answered (incomplete 1))
     ∷ check (answered (incomplete 2))
     ∷ check (refused 1 48)
+    ∷ query foundInA
     ∷ []
 
 -- the theorem

@@ -1,0 +1,80 @@
+-- Case A's query, and what demand 3 supposes and says of it and of the two indexes, by computation.
+use mathlib.Core.Path.{_≡_, refl, sym}
+use mathlib.Core.Logic.{inl, inr}
+use mathlib.Core.List.{[], _∷_, flatMap}
+use Rattle.headers.specs.declared.headers.HeaderStep.{HeaderStep}
+use Rattle.reader.specs.Errors.{longest}
+use Rattle.reader.specs.Parts.{skipped, cut}
+use Rattle.reader.specs.Numbers.{digits, spelled, numberAt, readNumber, readByte, initialLength}
+use Rattle.reader.specs.Lists.{numbersFrom, filterb, takeWhile, memberb}
+use Rattle.reader.specs.Listing.{listing, followedBy, shownBy, itemsOf, counted}
+use Rattle.reader.specs.Steps.{no-steps, step-then, hasEnd, upToEnd}
+use Rattle.leb128.specs.Leb128.{leb128, numberOfBytes, numberBytes, someBeyond, beyond, complete, base128}
+use Rattle.strings.specs.Strings.{beforeZero, zeroFrom, getStr}
+use Rattle.abbreviations.specs.Abbreviations.{pair, attributesIn, attributes, head, withAttributes, declaration, table, ending, parsed, find}
+use Rattle.headers.specs.Header.{headerCut, counts, augmentation, headerBody, header}
+use Rattle.headers.specs.Headers.{firstHeader, afterHeader, headerStep, headerAt, headersFrom}
+use Rattle.index.specs.Layout.{wordBytes, hashBytes, sizes, placesFrom, place, parts, fitted}
+use Rattle.index.specs.Open.{indexOf, passedOver, cutParts, nameIndex}
+use Rattle.names.specs.Units.{nthWord, unitIn, compileUnit, defaultCompileUnit}
+use Rattle.names.specs.Names.{nameStringOffset, nameString}
+use Rattle.forms.specs.Forms.{asFlag, asUnsigned, asOffset, formValue}
+use Rattle.attributes.specs.Attributes.{values, kept, noAttribute, first, facts}
+use Rattle.attributes.specs.Meaning.{unitNumberIn, unitNumber, numberedUnit, numberedTypeUnit, compileUnitOf, typeUnitOf, dieOffsetIn, dieOffset}
+use Rattle.entries.specs.Entries.{entry}
+use Rattle.entries.specs.Series.{seriesStart, seriesEntry, entriesFrom, series}
+use Rattle.hashes.specs.Table.{nthOf, storedStart, storedHash, bucketOf, namesFrom, runFrom, fromStart, run, storing, namesOfHash}
+use Rattle.hashes.specs.Lookups.{findByBucket, findByHash}
+use Rattle.tables.specs.Check.{startAbove, anyAbove, isMissed, missedNames, verdict, tableCheck}
+use Rattle.records.specs.Units.{compileShown, typeShown, namedUnit, entryUnit}
+use Rattle.records.specs.Records.{shown, entryRecord}
+use Rattle.index_query.specs.Candidates.{candidates}
+use Rattle.index_query.specs.Matching.{sameBytes, textIs, nameMatches, matching}
+use Rattle.index_query.specs.Series.{recordOfEntry, seriesRecords}
+use Rattle.index_query.specs.Records.{allSeries, indexRecords}
+use Rattle.query.specs.Records.{headerRecords, headersLeft, sectionRecords}
+use Rattle.query.specs.Query.{queried, written, sectionQuery}
+use Rattle.demand3.specs.Expected.{stringMatches, hashMatches, nameIsMatch, matchingNames, recordsOfName, recordsOfIndex, expected}
+use Rattle.demand3.specs.Demand3.{of-none, and-then}
+use Rattle.demand3.proofs.QueryLaws.{query-finds}
+use Rattle.p_cases.specs.CaseA.{caseA, stringsA, headerA, indexA}
+use Rattle.p_cases.specs.Queries.{queryOfA, foundInA, AllOpenA, CompleteA, FoundA, twoIndexes, secondHeader, secondIndex, openedTwo, queryOfTwo, foundInTwo, AllOpenTwo, CompleteTwo, ExpectedTwo, openA, old, de}
+
+pub query-of-a : queryOfA ≡ foundInA
+unfolding caseA stringsA headerA indexA sectionQuery queried written sectionRecords headersLeft headerRecords headersFrom headerAt header headerCut headerBody counts augmentation initialLength readNumber skipped cut spelled digits nameIndex indexOf cutParts passedOver parts place placesFrom sizes wordBytes hashBytes longest parsed ending table listing declaration withAttributes head attributes attributesIn pair leb128 numberOfBytes numberBytes someBeyond beyond complete base128 indexRecords candidates findByHash findByBucket namesOfHash run runFrom fromStart storing storedStart storedHash nthOf bucketOf namesFrom numbersFrom filterb takeWhile memberb numberAt matching nameMatches textIs sameBytes nameString nameStringOffset nthWord getStr zeroFrom beforeZero allSeries seriesRecords recordOfEntry shownBy followedBy itemsOf counted series seriesStart seriesEntry entriesFrom entry values kept noAttribute first facts formValue asFlag asUnsigned asOffset readByte find fitted entryRecord shown entryUnit namedUnit compileShown typeShown compileUnitOf typeUnitOf unitNumber unitNumberIn numberedUnit numberedTypeUnit compileUnit unitIn defaultCompileUnit dieOffset dieOffsetIn
+query-of-a = refl
+
+pub all-open-a : AllOpenA
+unfolding caseA stringsA headerA indexA sectionQuery queried written sectionRecords headersLeft headerRecords headersFrom headerAt header headerCut headerBody counts augmentation initialLength readNumber skipped cut spelled digits nameIndex indexOf cutParts passedOver parts place placesFrom sizes wordBytes hashBytes longest parsed ending table listing declaration withAttributes head attributes attributesIn pair leb128 numberOfBytes numberBytes someBeyond beyond complete base128 indexRecords candidates findByHash findByBucket namesOfHash run runFrom fromStart storing storedStart storedHash nthOf bucketOf namesFrom numbersFrom filterb takeWhile memberb numberAt matching nameMatches textIs sameBytes nameString nameStringOffset nthWord getStr zeroFrom beforeZero allSeries seriesRecords recordOfEntry shownBy followedBy itemsOf counted series seriesStart seriesEntry entriesFrom entry values kept noAttribute first facts formValue asFlag asUnsigned asOffset readByte find fitted entryRecord shown entryUnit namedUnit compileShown typeShown compileUnitOf typeUnitOf unitNumber unitNumberIn numberedUnit numberedTypeUnit compileUnit unitIn defaultCompileUnit dieOffset dieOffsetIn headerStep afterHeader firstHeader hasEnd upToEnd
+all-open-a = ((HeaderStep.Header headerA (record { at = 109 }) ∷ HeaderStep.End (record { at = 109 }) ∷ [], step-then refl (step-then refl no-steps), refl, refl), and-then refl of-none)
+
+pub complete-a : CompleteA
+unfolding caseA stringsA headerA indexA sectionQuery queried written sectionRecords headersLeft headerRecords headersFrom headerAt header headerCut headerBody counts augmentation initialLength readNumber skipped cut spelled digits nameIndex indexOf cutParts passedOver parts place placesFrom sizes wordBytes hashBytes longest parsed ending table listing declaration withAttributes head attributes attributesIn pair leb128 numberOfBytes numberBytes someBeyond beyond complete base128 indexRecords candidates findByHash findByBucket namesOfHash run runFrom fromStart storing storedStart storedHash nthOf bucketOf namesFrom numbersFrom filterb takeWhile memberb numberAt matching nameMatches textIs sameBytes nameString nameStringOffset nthWord getStr zeroFrom beforeZero allSeries seriesRecords recordOfEntry shownBy followedBy itemsOf counted series seriesStart seriesEntry entriesFrom entry values kept noAttribute first facts formValue asFlag asUnsigned asOffset readByte find fitted entryRecord shown entryUnit namedUnit compileShown typeShown compileUnitOf typeUnitOf unitNumber unitNumberIn numberedUnit numberedTypeUnit compileUnit unitIn defaultCompileUnit dieOffset dieOffsetIn startAbove anyAbove isMissed missedNames verdict tableCheck
+complete-a = and-then (inl refl) of-none
+
+pub found-a : FoundA
+found-a = query-finds _ caseA stringsA 7 de (old ∷ old ∷ []) _ 1 (openA ∷ []) all-open-a complete-a (sym query-of-a)
+
+pub query-of-two : queryOfTwo ≡ foundInTwo
+unfolding caseA stringsA headerA indexA sectionQuery queried written sectionRecords headersLeft headerRecords headersFrom headerAt header headerCut headerBody counts augmentation initialLength readNumber skipped cut spelled digits nameIndex indexOf cutParts passedOver parts place placesFrom sizes wordBytes hashBytes longest parsed ending table listing declaration withAttributes head attributes attributesIn pair leb128 numberOfBytes numberBytes someBeyond beyond complete base128 indexRecords candidates findByHash findByBucket namesOfHash run runFrom fromStart storing storedStart storedHash nthOf bucketOf namesFrom numbersFrom filterb takeWhile memberb numberAt matching nameMatches textIs sameBytes nameString nameStringOffset nthWord getStr zeroFrom beforeZero allSeries seriesRecords recordOfEntry shownBy followedBy itemsOf counted series seriesStart seriesEntry entriesFrom entry values kept noAttribute first facts formValue asFlag asUnsigned asOffset readByte find fitted entryRecord shown entryUnit namedUnit compileShown typeShown compileUnitOf typeUnitOf unitNumber unitNumberIn numberedUnit numberedTypeUnit compileUnit unitIn defaultCompileUnit dieOffset dieOffsetIn twoIndexes secondHeader secondIndex
+query-of-two = refl
+
+pub all-open-two : AllOpenTwo
+unfolding caseA stringsA headerA indexA sectionQuery queried written sectionRecords headersLeft headerRecords headersFrom headerAt header headerCut headerBody counts augmentation initialLength readNumber skipped cut spelled digits nameIndex indexOf cutParts passedOver parts place placesFrom sizes wordBytes hashBytes longest parsed ending table listing declaration withAttributes head attributes attributesIn pair leb128 numberOfBytes numberBytes someBeyond beyond complete base128 indexRecords candidates findByHash findByBucket namesOfHash run runFrom fromStart storing storedStart storedHash nthOf bucketOf namesFrom numbersFrom filterb takeWhile memberb numberAt matching nameMatches textIs sameBytes nameString nameStringOffset nthWord getStr zeroFrom beforeZero allSeries seriesRecords recordOfEntry shownBy followedBy itemsOf counted series seriesStart seriesEntry entriesFrom entry values kept noAttribute first facts formValue asFlag asUnsigned asOffset readByte find fitted entryRecord shown entryUnit namedUnit compileShown typeShown compileUnitOf typeUnitOf unitNumber unitNumberIn numberedUnit numberedTypeUnit compileUnit unitIn defaultCompileUnit dieOffset dieOffsetIn twoIndexes secondHeader secondIndex headerStep afterHeader firstHeader hasEnd upToEnd
+all-open-two = (
+  (
+    HeaderStep.Header headerA (record { at = 109 }) ∷ HeaderStep.Header secondHeader (record { at = 178 }) ∷ HeaderStep.End (record { at = 178 }) ∷ [],
+    step-then refl (step-then refl (step-then refl no-steps)),
+    refl,
+    refl,
+  ),
+  and-then refl (and-then refl of-none),
+)
+
+pub complete-two : CompleteTwo
+unfolding caseA stringsA headerA indexA sectionQuery queried written sectionRecords headersLeft headerRecords headersFrom headerAt header headerCut headerBody counts augmentation initialLength readNumber skipped cut spelled digits nameIndex indexOf cutParts passedOver parts place placesFrom sizes wordBytes hashBytes longest parsed ending table listing declaration withAttributes head attributes attributesIn pair leb128 numberOfBytes numberBytes someBeyond beyond complete base128 indexRecords candidates findByHash findByBucket namesOfHash run runFrom fromStart storing storedStart storedHash nthOf bucketOf namesFrom numbersFrom filterb takeWhile memberb numberAt matching nameMatches textIs sameBytes nameString nameStringOffset nthWord getStr zeroFrom beforeZero allSeries seriesRecords recordOfEntry shownBy followedBy itemsOf counted series seriesStart seriesEntry entriesFrom entry values kept noAttribute first facts formValue asFlag asUnsigned asOffset readByte find fitted entryRecord shown entryUnit namedUnit compileShown typeShown compileUnitOf typeUnitOf unitNumber unitNumberIn numberedUnit numberedTypeUnit compileUnit unitIn defaultCompileUnit dieOffset dieOffsetIn twoIndexes secondHeader secondIndex startAbove anyAbove isMissed missedNames verdict tableCheck
+complete-two = and-then (inl refl) (and-then (inr refl) of-none)
+
+pub expected-two : ExpectedTwo
+unfolding caseA stringsA headerA indexA sectionQuery queried written sectionRecords headersLeft headerRecords headersFrom headerAt header headerCut headerBody counts augmentation initialLength readNumber skipped cut spelled digits nameIndex indexOf cutParts passedOver parts place placesFrom sizes wordBytes hashBytes longest parsed ending table listing declaration withAttributes head attributes attributesIn pair leb128 numberOfBytes numberBytes someBeyond beyond complete base128 indexRecords candidates findByHash findByBucket namesOfHash run runFrom fromStart storing storedStart storedHash nthOf bucketOf namesFrom numbersFrom filterb takeWhile memberb numberAt matching nameMatches textIs sameBytes nameString nameStringOffset nthWord getStr zeroFrom beforeZero allSeries seriesRecords recordOfEntry shownBy followedBy itemsOf counted series seriesStart seriesEntry entriesFrom entry values kept noAttribute first facts formValue asFlag asUnsigned asOffset readByte find fitted entryRecord shown entryUnit namedUnit compileShown typeShown compileUnitOf typeUnitOf unitNumber unitNumberIn numberedUnit numberedTypeUnit compileUnit unitIn defaultCompileUnit dieOffset dieOffsetIn twoIndexes secondHeader secondIndex expected recordsOfIndex recordsOfName matchingNames nameIsMatch hashMatches stringMatches flatMap
+expected-two = refl
