@@ -1,17 +1,17 @@
 -- What linked header steps that reach an end answered are all headers of the section.
-use Prim.Native.Nat.{ℕ, _+_, _-_, _≤_, _<_}
+use Prim.Native.Nat.{ℕ, _-_, _≤_}
 use mathlib.Core.Path.{_≡_, refl, sym, ap, ap₂, _∙_}
 use mathlib.Core.Bool.{Bool, true, false, cond}
 use mathlib.Core.List.{List, [], _∷_, map}
-use mathlib.Core.Option.{Option, some, none, Option·none-ne-some, Option·some-injective}
+use mathlib.Core.Option.{Option, some, none, Option·some-injective}
 use native.Mathlib.Omega.{arith}
-use lib.ListN.{length, take}
+use lib.ListN.{length}
 use lib.Seq.{take-all}
-use lib.Dec.{ltb, leb}
+use lib.Dec.{leb}
 use borrow.Author.Tests.{ltb-true, le-leb}
 use Rattle.reader.specs.Outcome.{Outcome, answered, refused, _>>=_}
 use Rattle.reader.specs.Errors.{longest}
-use Rattle.reader.specs.Steps.{Step, Linked, hasEnd, upToEnd, ListsInOrder}
+use Rattle.reader.specs.Steps.{Linked, hasEnd, upToEnd, ListsInOrder}
 use Rattle.reader.specs.Listing.{Listing, ended, broken, item, listed, answersOf}
 use Rattle.reader.specs.declared.endianity.RunTimeEndian.{RunTimeEndian}
 use Rattle.reader.proofs.OutcomeLaws.{refused-answered, same-answer}

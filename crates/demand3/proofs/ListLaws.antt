@@ -1,10 +1,10 @@
 -- Lists that can be counted, and what was shown of their items.
-use Prim.Native.Nat.{ℕ, zero, suc, _+_}
-use mathlib.Core.Path.{_≡_, refl, sym, ap, ap₂, _∙_}
+use Prim.Native.Nat.{ℕ, zero, suc}
+use mathlib.Core.Path.{_≡_, refl, sym, ap, ap₂}
 use mathlib.Core.Bool.{Bool, true, false, cond}
 use mathlib.Core.List.{List, [], _∷_, map}
 use lib.ListN.{take}
-use Rattle.reader.specs.Outcome.{Outcome, answered, refused, _>>=_}
+use Rattle.reader.specs.Outcome.{Outcome, answered, refused}
 use Rattle.reader.specs.Listing.{Listing, ended, broken, item, orBroken, shownBy, itemsOf, counted}
 use Rattle.reader.specs.Lists.{filterb}
 use Rattle.reader.proofs.OutcomeLaws.{refused-answered, bind-answered}

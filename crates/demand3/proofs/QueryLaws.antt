@@ -1,24 +1,21 @@
 -- Demand 3: a query that is not refused finds what is expected; and the whole. In a complete table the candidates are all names that store
 -- the hash, and without a table all names; so those that match are the matching names, and where all can be counted nothing was left out.
-use Prim.Native.Nat.{ℕ, _+_, _-_, _≤_, _<_}
-use mathlib.Core.Path.{_≡_, refl, sym, ap, ap₂, _∙_}
+use Prim.Native.Nat.{ℕ, _+_, _-_, _≤_}
+use mathlib.Core.Path.{_≡_, refl, sym, ap, _∙_}
 use mathlib.Core.Bool.{Bool, true, false, cond}
-use mathlib.Core.Logic.{_⊎_, inl, inr}
+use mathlib.Core.Logic.{inl, inr}
 use mathlib.Core.List.{List, [], _∷_, _++_, map, map-append, flatMap}
 use native.Mathlib.Omega.{arith}
-use lib.ListN.{length, take, drop, length-map}
+use lib.ListN.{length, take, length-map}
 use lib.Dec.{ltb, eqb}
 use borrow.Author.Tests.{ltb-false, eq-eqb, ne-eqb}
 use Rattle.reader.specs.Outcome.{Outcome, answered, refused, _>>=_, _>>_, refuseIf}
 use Rattle.reader.specs.Errors.{longest}
 use Rattle.reader.specs.Lists.{numbersFrom, filterb}
-use Rattle.reader.specs.Listing.{Listing, ended, broken, item, orBroken, followedBy, shownBy, itemsOf, counted, items}
+use Rattle.reader.specs.Listing.{Listing, item, orBroken, itemsOf, counted}
 use Rattle.reader.specs.declared.endianity.RunTimeEndian.{RunTimeEndian}
 use Rattle.reader.proofs.OutcomeLaws.{refused-answered, same-answer, then-answered}
 use Rattle.reader.proofs.ListingLaws.{counted-items, items-length, followed-counted}
-use Rattle.headers.specs.declared.header.NameIndexHeader.{NameIndexHeader}
-use Rattle.headers.specs.Headers.{headersFrom}
-use Rattle.index.specs.declared.layout.NameIndex.{NameIndex}
 use Rattle.index.specs.declared.open.IndexRead.{IndexRead}
 use Rattle.index.specs.Layout.{parts, fitted}
 use Rattle.index.specs.Open.{nameIndex}
@@ -30,19 +27,16 @@ use Rattle.entries.proofs.SeriesLaws.{entry-lookups}
 use Rattle.hashes.specs.Table.{storedHash, namesFrom, storing, namesOfHash, allStoring}
 use Rattle.hashes.specs.Lookups.{findByHash}
 use Rattle.hashes.proofs.LookupLaws.{bucket-lookups, hash-lookups}
-use Rattle.tables.specs.declared.TableCheck.{TableCheck}
-use Rattle.tables.specs.Check.{checkOutcome, tableCheck}
 use Rattle.tables.proofs.CompleteLaws.{complete-names, no-table-buckets, complete-exactly}
 use Rattle.records.specs.declared.record.Record.{Record}
 use Rattle.index_query.specs.Candidates.{candidates}
 use Rattle.index_query.specs.Matching.{textIs, nameMatches, matching}
 use Rattle.index_query.specs.Series.{recordOfEntry, seriesRecords}
 use Rattle.index_query.specs.Records.{allSeries, indexRecords}
-use Rattle.query.specs.declared.fill.QueryRead.{QueryRead}
 use Rattle.query.specs.Records.{headerRecords, headersLeft, sectionRecords}
-use Rattle.query.specs.Query.{Queried, unlessRefused, queried, written, sectionQuery}
+use Rattle.query.specs.Query.{unlessRefused, queried, written, sectionQuery}
 use Rattle.demand3.specs.Expected.{OpenIndex, readsAs, stringMatches, hashMatches, nameIsMatch, matchingNames, recordsOfName, recordsOfIndex, expected}
-use Rattle.demand3.specs.Demand3.{Each, of-none, and-then, AllOpen, CompleteOrNoTable, QueryFinds, Demand3}
+use Rattle.demand3.specs.Demand3.{Each, and-then, CompleteOrNoTable, QueryFinds, Demand3}
 use Rattle.demand3.proofs.HeaderLaws.{allOf, headers-all}
 use Rattle.demand3.proofs.ListLaws.{shown-all, map-take, filter-both, filter-all}
 

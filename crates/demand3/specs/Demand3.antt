@@ -33,7 +33,7 @@ use Rattle.tables.specs.Demand3.{CompleteExactly}
 use Rattle.records.specs.declared.record.Record.{Record}
 use Rattle.query.specs.declared.fill.QueryRead.{QueryRead}
 use Rattle.query.specs.Answers.{queryOutcome}
-use Rattle.query.specs.Query.{Queried, sectionQuery}
+use Rattle.query.specs.Query.{sectionQuery}
 use Rattle.demand3.specs.Expected.{OpenIndex, expected}
 
 -- what the code's steps over the headers answered

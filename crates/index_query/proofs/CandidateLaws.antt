@@ -8,25 +8,23 @@ use native.Mathlib.Omega.{arith}
 use lib.ListN.{length}
 use lib.Dec.{leb, eqb}
 use borrow.Author.Tests.{eq-eqb, ne-eqb, lt-leb, le-leb}
-use Rattle.reader.specs.Outcome.{Outcome, answered, refused, _>>_}
+use Rattle.reader.specs.Outcome.{Outcome, answered, refused}
 use Rattle.reader.specs.Lists.{numbersFrom, filterb, takeWhile, memberb}
 use Rattle.reader.specs.declared.endianity.RunTimeEndian.{RunTimeEndian}
 use Rattle.reader.specs.declared.common.NameTableIndex.{NameTableIndex}
-use Rattle.reader.proofs.OutcomeLaws.{refused-answered, same-answer, then-answered}
+use Rattle.reader.proofs.OutcomeLaws.{same-answer}
 use Rattle.reader.proofs.ListLaws.{numbers-length, filter-length, while-length, member-filter, past-other}
 use Rattle.index.specs.declared.layout.NameIndex.{NameIndex}
 use Rattle.index.specs.declared.layout.Parts.{Parts}
 use Rattle.index.specs.Layout.{parts, fitted}
 use Rattle.index.proofs.LayoutLaws.{fitted-answered}
-use Rattle.hashes.specs.declared.bucket.NameBucketIter.{NameBucketIter}
 use Rattle.hashes.specs.declared.bucket.BucketIter.{BucketIter}
 use Rattle.hashes.specs.declared.hash.NameHashIter.{NameHashIter}
-use Rattle.hashes.specs.declared.hash.Found.{Found}
 use Rattle.hashes.specs.Table.{storedHash, storedStart, bucketOf, namesFrom, runFrom, examinedFrom, fromStart, run, storing, namesOfHash}
 use Rattle.hashes.specs.Lookups.{bucketCursor, hashCursor, findByHash, firstOr, nextStoring, hashMoved, hashStep}
-use Rattle.hashes.proofs.TableLaws.{bucket-below, names-step, run-step, storing-step, storing-rest, of-run}
+use Rattle.hashes.proofs.TableLaws.{bucket-below, names-step, storing-step, storing-rest, of-run}
 use Rattle.hashes.proofs.LookupLaws.{started, find-answered, hash-answered}
-use Rattle.index_query.specs.Candidates.{candidates, candidatesFrom, candidatesAt}
+use Rattle.index_query.specs.Candidates.{candidates, candidatesFrom}
 
 module _ (order : RunTimeEndian) (s : List ℕ) (i : NameIndex) (hash : ℕ) where
   abbrev hashOf : ℕ → ℕ

@@ -9,7 +9,7 @@ use lib.ListN.{length, take, drop, getD, drop-of-length-le, length-take, length-
 use lib.Seq.{drop-cons}
 use lib.Dec.{ltb, eqb}
 use borrow.Author.Tests.{eqb-true, eq-eqb}
-use Rattle.reader.specs.Outcome.{Outcome, answered, refused, _>>=_, _>>_, refuseIf}
+use Rattle.reader.specs.Outcome.{Outcome, answered, refused, refuseIf}
 use Rattle.reader.specs.Errors.{longest}
 use Rattle.reader.specs.Listing.{Listing, ended, broken, item, orBroken}
 use Rattle.reader.specs.declared.endianity.RunTimeEndian.{RunTimeEndian}
@@ -18,7 +18,7 @@ use Rattle.reader.proofs.ListLaws.{false-true}
 use Rattle.reader.proofs.OutcomeLaws.{bind-answered, then-answered, same-answer}
 use Rattle.index.specs.declared.layout.NameIndex.{NameIndex}
 use Rattle.index.specs.Layout.{fitted}
-use Rattle.strings.specs.Strings.{Text, getStr}
+use Rattle.strings.specs.Strings.{Text}
 use Rattle.strings.proofs.StringLaws.{str-answered}
 use Rattle.names.specs.Names.{nameString, nameStringOffset}
 use Rattle.index_query.specs.Candidates.{candidatesFrom, candidatesAt}

@@ -7,22 +7,22 @@ use mathlib.Core.Option.{Option, some, none}
 use native.Mathlib.Omega.{arith}
 use native.Mathlib.Nat.{suc-mul, mul-le-mul-right}
 use lib.ListN.{length}
-use lib.Dec.{ltb, eqb}
-use borrow.Author.Tests.{eqb-false, eq-eqb}
+use lib.Dec.{eqb}
+use borrow.Author.Tests.{eqb-false}
 use Rattle.reader.specs.Outcome.{Outcome, answered, refused, _>>=_, _>>_}
 use Rattle.reader.specs.Errors.{longest}
-use Rattle.reader.specs.Parts.{partEnd, leftAt}
+use Rattle.reader.specs.Parts.{leftAt}
 use Rattle.reader.specs.Listing.{Listing, ended, broken, item, listed, orBroken, followedBy, shownBy, items}
 use Rattle.reader.specs.declared.endianity.RunTimeEndian.{RunTimeEndian}
 use Rattle.reader.specs.declared.common.NameTableIndex.{NameTableIndex}
-use Rattle.reader.proofs.OutcomeLaws.{bind-answered, then-answered, refused-answered, same-answer}
+use Rattle.reader.proofs.OutcomeLaws.{then-answered, refused-answered, same-answer}
 use Rattle.reader.specs.Lists.{numbersFrom}
 use Rattle.reader.proofs.ListLaws.{numbers-length}
 use Rattle.reader.proofs.ListingLaws.{followed-items, shown-items}
 use Rattle.index.specs.declared.layout.NameIndex.{NameIndex}
 use Rattle.index.specs.declared.layout.Parts.{Parts}
 use Rattle.index.specs.Layout.{parts, fitted}
-use Rattle.index.proofs.LayoutLaws.{fitted-answered, fitted-fits}
+use Rattle.index.proofs.LayoutLaws.{fitted-answered}
 use Rattle.entries.specs.declared.entry.WholeEntry.{WholeEntry}
 use Rattle.entries.specs.declared.series.NameEntryIter.{NameEntryIter}
 use Rattle.entries.specs.Entries.{Entry, entry, entryRead, wholeOf}

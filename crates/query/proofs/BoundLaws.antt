@@ -1,11 +1,11 @@
 -- Laws of squares, and how many records a section can have.
 use Prim.Native.Nat.{ℕ, zero, suc, _+_, _-_, _*_, _^_, _≤_, _<_}
 use native.Mathlib.Nat.{le-trans, mul-add, add-mul, mul-comm, mul-assoc, mul-le-mul}
-use mathlib.Core.Path.{_≡_, refl, sym, ap, _∙_}
+use mathlib.Core.Path.{_≡_, refl, sym, ap}
 use native.Mathlib.Omega.{arith}
 use mathlib.Core.List.{List}
-use mathlib.Core.Option.{Option, some, none}
-use lib.ListN.{length, getD}
+use mathlib.Core.Option.{some, none}
+use lib.ListN.{length}
 use Rattle.reader.specs.Outcome.{Outcome, answered, refused, _>>=_, demand, refuseIf}
 use Rattle.reader.specs.Errors.{longest}
 use Rattle.reader.proofs.ErrorLaws.{longest-most}
@@ -14,7 +14,7 @@ use Rattle.reader.specs.Numbers.{Read, readNumber}
 use Rattle.reader.proofs.OutcomeLaws.{bind-answered, then-answered, same-answer}
 use Rattle.reader.proofs.PartLaws.{skip-answered, cut-answered}
 use Rattle.reader.proofs.NumberLaws.{read-forward}
-use Rattle.reader.specs.Listing.{Listing, ended, broken, item, listed, orBroken, followedBy, items}
+use Rattle.reader.specs.Listing.{Listing, listed, orBroken, followedBy, items}
 use Rattle.reader.specs.declared.endianity.RunTimeEndian.{RunTimeEndian}
 use Rattle.reader.proofs.ListingLaws.{followed-items}
 use Rattle.headers.specs.declared.header.NameIndexHeader.{NameIndexHeader}

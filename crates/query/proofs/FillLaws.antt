@@ -1,5 +1,5 @@
 -- Laws of what there is to write.
-use Prim.Native.Nat.{ℕ, zero, suc, _+_, _-_, _^_, _≤_, _<_}
+use Prim.Native.Nat.{ℕ, zero, suc, _+_, _-_, _^_, _<_}
 use mathlib.Core.Path.{_≡_, refl, sym, ap, ap₂, _∙_}
 use mathlib.Core.List.{List, [], _∷_}
 use native.Mathlib.Omega.{arith}
@@ -10,13 +10,13 @@ use mathlib.Core.Bool.{true, false}
 use borrow.Author.Tests.{ltb-false}
 use Rattle.reader.specs.Errors.{longest}
 use Rattle.reader.specs.declared.endianity.RunTimeEndian.{RunTimeEndian}
-use Rattle.reader.specs.Outcome.{Outcome, answered, refused}
+use Rattle.reader.specs.Outcome.{answered, refused}
 use Rattle.reader.specs.Listing.{Listing, ended, broken, item, itemsOf, counted, items}
 use Rattle.reader.proofs.ListingLaws.{plus, counted-item, counted-items, items-length}
 use Rattle.records.specs.declared.record.Record.{Record}
 use Rattle.query.specs.declared.walk.QueryIter.{QueryIter}
-use Rattle.query.specs.Records.{sectionRecords, queryLeft, firstLeft}
-use Rattle.query.specs.Query.{Queried, queried, planned}
+use Rattle.query.specs.Records.{sectionRecords, queryLeft, firstRecord}
+use Rattle.query.specs.Query.{queried, planned}
 use Rattle.query.proofs.WalkLaws.{section-left}
 use Rattle.query.proofs.BoundLaws.{total-small}
 
@@ -61,12 +61,12 @@ module _ (order : RunTimeEndian) (s strs : List ℕ) (hash : ℕ) (text : List �
   unfolding planned sectionRecords
   planned-strings-long e f = rw (e, f) (queried-broken 13 0)
 
-  pub planned-left : ltb longest (length s) ≡ false → ltb longest (length strs) ≡ false → planned order s strs hash text ≡ queried (queryLeft order s strs hash text firstLeft)
+  pub planned-left : ltb longest (length s) ≡ false → ltb longest (length strs) ≡ false → planned order s strs hash text ≡ queried (queryLeft order s strs hash text firstRecord)
   unfolding planned
   planned-left e f = ap queried (section-left order s strs hash text (ltb-false longest (length s) e) (ltb-false longest (length strs) f))
 
   -- the records after the first are fewer than 2^64, and so is their number with the first
-  pub rest-small : ltb longest (length s) ≡ false → ltb longest (length strs) ≡ false → (r : Record) (after : QueryIter) → item r (queryLeft order s strs hash text after) ≡ queryLeft order s strs hash text firstLeft
+  pub rest-small : ltb longest (length s) ≡ false → ltb longest (length strs) ≡ false → (r : Record) (after : QueryIter) → item r (queryLeft order s strs hash text after) ≡ queryLeft order s strs hash text firstRecord
       → items (queryLeft order s strs hash text after) + 1 < 2 ^ 64
   unfolding items
   rest-small e f r after step =

@@ -1,20 +1,20 @@
 -- Laws of the walk over the headers of a section.
-use Prim.Native.Nat.{ℕ, suc, _+_, _-_, _*_, _^_, _≤_, _<_}
+use Prim.Native.Nat.{ℕ, _-_, _≤_, _<_}
 use mathlib.Core.Path.{_≡_, refl, sym, ap, _∙_}
 use mathlib.Core.Bool.{Bool, true, false, cond}
-use mathlib.Core.List.{List, [], _∷_}
-use mathlib.Core.Option.{Option, some, none}
+use mathlib.Core.List.{List}
+use mathlib.Core.Option.{some, none}
 use native.Mathlib.Omega.{arith}
 use lib.ListN.{length}
-use lib.Dec.{ltb, leb, eqb}
-use borrow.Author.Tests.{eq-eqb, le-ltb}
-use Rattle.reader.specs.Outcome.{Outcome, answered, refused, _>>=_, _>>_, refuseIf, demand}
+use lib.Dec.{leb, eqb}
+use borrow.Author.Tests.{le-ltb}
+use Rattle.reader.specs.Outcome.{Outcome, answered, refused, _>>=_, demand}
 use Rattle.reader.specs.Errors.{longest}
 use Rattle.reader.specs.Parts.{skipped, cut}
 use Rattle.reader.specs.Numbers.{readNumber, initialLength}
 use Rattle.reader.specs.declared.common.Format.{Format}
 use Rattle.reader.specs.Lists.{numbersFrom}
-use Rattle.reader.specs.Listing.{Listing, ended, broken, item, listed, orBroken, followedBy}
+use Rattle.reader.specs.Listing.{Listing, ended, listed, orBroken, followedBy}
 use Rattle.reader.specs.declared.endianity.RunTimeEndian.{RunTimeEndian}
 use Rattle.reader.proofs.OutcomeLaws.{bind-answered, then-answered, same-answer}
 use Rattle.headers.specs.declared.header.HeaderCut.{HeaderCut}
@@ -23,7 +23,7 @@ use Rattle.headers.specs.Header.{headerCut, counts, augmentation, headerBody, h
 use Rattle.headers.specs.Headers.{headerAt, headersFrom}
 use Rattle.headers.proofs.HeaderLaws.{cut-forward, body-answered, headers-step}
 use Rattle.index.specs.declared.layout.NameIndex.{NameIndex}
-use Rattle.index.specs.Layout.{parts, place, placesFrom, sizes, wordBytes, hashBytes, Fits, fitted}
+use Rattle.index.specs.Layout.{parts, place, placesFrom, sizes, wordBytes, hashBytes, fitted}
 use Rattle.index.specs.Open.{nameIndex}
 use Rattle.index.proofs.LayoutLaws.{fitted-fits}
 use Rattle.hashes.specs.Table.{namesFrom}
@@ -35,8 +35,7 @@ use Rattle.index_query.specs.Matching.{matching}
 use Rattle.index_query.specs.Records.{matchesAt}
 use Rattle.index_query.specs.Records.{allSeries, indexRecords, recordsAt, indexLeft}
 use Rattle.index_query.proofs.RecordLaws.{records-ended, left-fits}
-use Rattle.query.specs.declared.walk.QueryIter.{QueryIter}
-use Rattle.query.specs.Records.{headerRecords, headersLeft, sectionRecords, queryLeft, firstLeft}
+use Rattle.query.specs.Records.{headerRecords, headersLeft, sectionRecords, queryLeft, firstRecord}
 
 -- what a header that was read says: its offset is its place, and its index ends past it, inside the section
 cut-offset : (order : RunTimeEndian) (s : List ℕ) (at : ℕ) (c : HeaderCut) → headerCut order s at ≡ answered c → c .offset .0 ≡ at
@@ -111,10 +110,10 @@ module _ (order : RunTimeEndian) (s strs : List ℕ) (hash : ℕ) (text : List �
       tested false (refused n v) = refl
 
   -- before the first header the empty index has no records
-  pub first-left : length s ≤ longest → queryLeft order s strs hash text firstLeft ≡ headersLeft order s strs hash text 0
-  unfolding queryLeft firstLeft followedBy
+  pub first-left : length s ≤ longest → queryLeft order s strs hash text firstRecord ≡ headersLeft order s strs hash text 0
+  unfolding queryLeft firstRecord followedBy
   first-left short = rw (none-open-left order s strs hash text (record { name = record { 0 = 0 }; at = 0; next = 0 }) refl refl short)
 
-  pub section-left : length s ≤ longest → length strs ≤ longest → sectionRecords order s strs hash text ≡ queryLeft order s strs hash text firstLeft
+  pub section-left : length s ≤ longest → length strs ≤ longest → sectionRecords order s strs hash text ≡ queryLeft order s strs hash text firstRecord
   unfolding sectionRecords
   section-left short short-strs = rw (le-ltb longest (length s) short, le-ltb longest (length strs) short-strs) (sym (first-left short))

@@ -1,6 +1,6 @@
 -- The section query: document 01. `s` is .debug_names and `strs` is .debug_str; `text` has the bytes of the name that is asked for.
 use Prim.Native.Nat.{ℕ}
-use mathlib.Core.Bool.{true, false, cond}
+use mathlib.Core.Bool.{false, cond}
 use mathlib.Core.List.{List, [], _∷_, _++_}
 use lib.ListN.{length, take, drop}
 use Rattle.reader.specs.Outcome.{Outcome, answered, refused}
@@ -10,7 +10,7 @@ use Rattle.records.specs.declared.record.Record.{Record}
 use Rattle.query.specs.declared.fill.QueryRead.{QueryRead}
 use Rattle.query.specs.declared.fill.Writing.{Writing}
 use Rattle.query.specs.declared.fill.Plan.{Plan}
-use Rattle.query.specs.Records.{sectionRecords, queryLeft, firstLeft}
+use Rattle.query.specs.Records.{sectionRecords, queryLeft, firstRecord}
 
 -- what a query answers, its total or the refusal, and records: those to write, or those lent as they are at exit
 pub record Queried : Type 0 where
@@ -63,6 +63,6 @@ nothingToWrite answer = record {
       «unit_kind» = 0;
       «has_die_offset» = 0;
     };
-    cursor = firstLeft;
+    cursor = firstRecord;
   };
 }

@@ -38,8 +38,8 @@ queryLeft order s strs hash text c =
     followedBy (indexLeft order s strs hash text (c .offset) (c .index) (c .records)) (headersLeft order s strs hash text (c .at))
 
 -- the cursor before the first header: an index without names is open
-unfoldable pub firstLeft : QueryIter
-firstLeft = record {
+unfoldable pub firstRecord : QueryIter
+firstRecord = record {
   at = 0;
   offset = 0;
   index = record {

@@ -9,7 +9,7 @@ ghost use mathlib.Core.Path.{_≡_};
 ghost use Prim.Native.Nat.{_+_, _<_, _^_};
 ghost use Rattle.reader.specs.Listing.{counted, items};
 ghost use Rattle.query.specs.Records.{queryLeft};
-ghost use Rattle.query.specs.Query.{Queried, planned, sectionQuery, writingLeft, nothingToWrite};
+ghost use Rattle.query.specs.Query.{planned, sectionQuery, writingLeft, nothingToWrite};
 ghost use Rattle.query.specs.Answers.{queryOutcome, writeLeft, planOutcome};
 use reader::Error;
 use reader::NameTableIndex;

@@ -2,7 +2,7 @@
 ghost use mathlib.Core.Path.{_≡_};
 ghost use mathlib.Core.List.{List};
 ghost use Prim.Native.Nat.{ℕ};
-ghost use Rattle.query.specs.Records.{headersLeft, queryLeft, firstLeft};
+ghost use Rattle.query.specs.Records.{headersLeft, queryLeft, firstRecord};
 ghost use Rattle.query.specs.Answers.{nextLeft, nextPast, stepLeft};
 use headers::HeaderCutRead;
 use headers::HeaderRead;
@@ -45,7 +45,7 @@ pub enum NextIndex {
 
 // The cursor before the first header: an index without names is open.
 pub fn first_record() -> QueryIter
-    ensures { λ r. ⌜ r ≡ firstLeft ⌝ }
+    ensures { λ r. ⌜ r ≡ firstRecord ⌝ }
 {
     QueryIter {
         at: 0,

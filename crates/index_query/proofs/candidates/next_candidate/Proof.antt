@@ -5,8 +5,8 @@ use mathlib.Core.Path.{sym, ap}
 use native.Mathlib.Omega.{arith}
 use Rattle.index_query.proofs.CandidateLaws.{all-step, next-stored, next-below}
 use borrow.Author.Needs.{needs}
-use borrow.Author.Tests.{eq-eqb, le-leb, lt-leb, ne-eqb}
-use Rattle.index_query.specs.Candidates.{candidatesAt, candidatesFrom}
+use borrow.Author.Tests.{le-leb, lt-leb}
+use Rattle.index_query.specs.Candidates.{candidatesAt}
 use Rattle.index_query.proofs.candidates.next_candidate.Statement.{statement}
 use Rattle.index_query.proofs.candidates.next_candidate.Tie as tie
 

@@ -4,7 +4,6 @@ use mathlib.Core.Path.{sym}
 use native.Mathlib.Omega.{arith}
 use Rattle.index_query.proofs.MatchLaws.{string-inside, text-other}
 use borrow.Author.Needs.{needs}
-use borrow.Author.Tests.{eq-eqb, ne-eqb}
 use Rattle.index_query.specs.Matching.{nameMatches, textIs}
 use Rattle.index_query.proofs.matching.name_matches.Statement.{statement}
 use Rattle.index_query.proofs.matching.name_matches.Tie as tie

@@ -6,7 +6,7 @@ use Prim.Native.Nat.{_-_}
 use lib.ListN.{length, take, drop}
 use native.Mathlib.Omega.{arith}
 use Rattle.index_query.proofs.MatchLaws.{sameFrom, same-start, same-step, same-end}
-use borrow.Author.Tests.{eq-eqb, le-ltb, lt-ltb, ne-eqb}
+use borrow.Author.Tests.{eq-eqb, ne-eqb}
 use Rattle.index_query.specs.Matching.{sameBytes}
 use Rattle.index_query.proofs.matching.same_at.Statement.{statement}
 use Rattle.index_query.proofs.matching.same_at.Tie as tie

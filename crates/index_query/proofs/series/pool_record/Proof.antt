@@ -1,12 +1,10 @@
 -- `index_query::series::pool_record` meets its contract: the records from a place on are decided by the entry there (`entry-records-step`).
 -- Assumes nothing.
 use denote.Ref.{now}
-use mathlib.Core.Path.{_≡_, sym, _∙_}
+use mathlib.Core.Path.{sym, _∙_}
 use native.Mathlib.Omega.{arith}
 use Rattle.index_query.proofs.RecordLaws.{entryAfter, entry-records-step, left-inside, places-small}
 use borrow.Author.Needs.{needs}
-use Rattle.index_query.specs.Records.{entryRecords}
-use Rattle.index_query.specs.Series.{recordOfEntry}
 use Rattle.index_query.proofs.series.pool_record.Statement.{statement}
 use Rattle.index_query.proofs.series.pool_record.Tie as tie
 

@@ -4,9 +4,7 @@ use mathlib.Core.Path.{refl}
 use denote.Ref.{now}
 use Rattle.index_query.proofs.RecordLaws.{start-left}
 use borrow.Author.Needs.{needs}
-use Rattle.index_query.specs.Records.{indexRecords, allSeries}
-use Rattle.index_query.specs.Series.{seriesRecords, recordOfEntry}
-use Rattle.index_query.specs.Matching.{matching}
+use Rattle.index_query.specs.Records.{indexRecords}
 use Rattle.index_query.proofs.series.start.Statement.{statement}
 use Rattle.index_query.proofs.series.start.Tie as tie
 

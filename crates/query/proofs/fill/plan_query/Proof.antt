@@ -6,8 +6,6 @@ use Rattle.reader.proofs.ListingLaws.{counted-items}
 use Rattle.query.specs.Query.{writingLeft}
 use Rattle.query.proofs.FillLaws.{queried-ended, queried-broken, queried-item, queried-refused, planned-long, planned-strings-long, planned-left, rest-small}
 use borrow.Author.Needs.{needs}
-use Rattle.query.specs.Query.{planned, queried}
-use Rattle.query.specs.Records.{sectionRecords}
 use Rattle.query.proofs.fill.plan_query.Statement.{statement}
 use Rattle.query.proofs.fill.plan_query.Tie as tie
 

@@ -10,7 +10,6 @@ use Rattle.query.specs.Records.{queryLeft}
 use Rattle.query.proofs.WalkLaws.{header-read, headers-left-step}
 use borrow.Author.Needs.{needs}
 use borrow.Author.Tests.{le-leb, lt-leb}
-use Rattle.query.specs.Records.{headersLeft, headerRecords}
 use Rattle.query.proofs.walk.open_next.Statement.{statement}
 use Rattle.query.proofs.walk.open_next.Tie as tie
 

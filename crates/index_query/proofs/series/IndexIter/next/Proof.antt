@@ -6,8 +6,7 @@ use Rattle.reader.specs.Listing.{followedBy, items}
 use Rattle.index_query.specs.Records.{matchesAt}
 use Rattle.index_query.specs.Records.{indexLeft}
 use borrow.Author.Needs.{needs}
-use Rattle.index_query.specs.Records.{indexLeft, recordsAt, allSeries}
-use Rattle.index_query.specs.Series.{seriesRecords, recordOfEntry}
+use Rattle.index_query.specs.Records.{indexLeft}
 use Rattle.index_query.proofs.series.IndexIter.next.Statement.{statement}
 use Rattle.index_query.proofs.series.IndexIter.next.Tie as tie
 

@@ -5,8 +5,6 @@ use Rattle.reader.specs.Listing.{itemsOf}
 use Rattle.query.specs.Query.{writingLeft}
 use Rattle.query.proofs.FillLaws.{take-none, take-first}
 use borrow.Author.Needs.{needs}
-use borrow.Author.Tests.{eq-eqb, ne-eqb}
-use Rattle.query.specs.Records.{queryLeft}
 use Rattle.query.proofs.fill.Writing.next.Statement.{statement}
 use Rattle.query.proofs.fill.Writing.next.Tie as tie
 

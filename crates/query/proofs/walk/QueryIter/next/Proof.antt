@@ -7,7 +7,6 @@ use native.Mathlib.Omega.{arith}
 use Rattle.reader.specs.Listing.{followedBy}
 use Rattle.query.specs.Records.{queryLeft}
 use borrow.Author.Needs.{needs}
-use Rattle.query.specs.Query.{writingLeft}
 use Rattle.query.proofs.walk.QueryIter.next.Statement.{statement}
 use Rattle.query.proofs.walk.QueryIter.next.Tie as tie
 
