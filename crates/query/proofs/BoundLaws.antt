@@ -1,30 +1,21 @@
 -- Laws of squares, and how many records a section can have.
 use Prim.Native.Nat.{ℕ, zero, suc, _+_, _-_, _*_, _^_, _≤_, _<_}
-use native.Mathlib.Nat.{le-trans, mul-add, add-mul, mul-comm, mul-assoc, mul-le-mul}
-use mathlib.Core.Path.{_≡_, refl, sym, ap}
+use native.Mathlib.Nat.{mul-add, add-mul, mul-comm, mul-assoc, mul-le-mul}
+use mathlib.Core.Path.{_≡_, refl, ap}
 use native.Mathlib.Omega.{arith}
 use mathlib.Core.List.{List}
 use mathlib.Core.Option.{some, none}
 use lib.ListN.{length}
-use Rattle.reader.specs.Outcome.{Outcome, answered, refused, _>>=_, demand, refuseIf}
+use Rattle.reader.specs.Outcome.{Outcome, answered, refused, _>>=_, refuseIf}
 use Rattle.reader.specs.Errors.{longest}
 use Rattle.reader.proofs.ErrorLaws.{longest-most}
-use Rattle.reader.specs.Parts.{skipped, cut}
-use Rattle.reader.specs.Numbers.{Read, readNumber}
-use Rattle.reader.proofs.OutcomeLaws.{bind-answered, then-answered, same-answer}
-use Rattle.reader.proofs.PartLaws.{skip-answered, cut-answered}
-use Rattle.reader.proofs.NumberLaws.{read-forward}
 use Rattle.reader.specs.Listing.{Listing, listed, orBroken, followedBy, items}
 use Rattle.reader.specs.declared.endianity.RunTimeEndian.{RunTimeEndian}
 use Rattle.reader.proofs.ListingLaws.{followed-items}
 use Rattle.headers.specs.declared.header.NameIndexHeader.{NameIndexHeader}
-use Rattle.headers.specs.declared.header.HeaderCut.{HeaderCut}
-use Rattle.headers.specs.declared.header.Counts.{Counts}
-use Rattle.headers.specs.declared.header.Augmentation.{Augmentation}
-use Rattle.headers.specs.declared.header.ReadAugmentation.{ReadAugmentation}
-use Rattle.headers.specs.Header.{headerCut, counts, padding, augmentation, headerBody, header}
+use Rattle.headers.specs.Header.{header}
 use Rattle.headers.specs.Headers.{headerAt, headersFrom}
-use Rattle.headers.proofs.HeaderLaws.{cut-forward, header-fits, headers-step}
+use Rattle.headers.proofs.HeaderLaws.{header-fits, headers-step}
 use Rattle.index.specs.declared.layout.NameIndex.{NameIndex}
 use Rattle.index.specs.Layout.{parts, place, sizes, wordBytes}
 use Rattle.index.specs.Open.{indexOf, nameIndex}
@@ -34,10 +25,11 @@ use Rattle.entries.specs.Sanity.{poolLength}
 use Rattle.records.specs.declared.record.Record.{Record}
 use Rattle.index_query.specs.Records.{indexRecords}
 use Rattle.index_query.proofs.RecordLaws.{index-items}
+use Rattle.query.proofs.HeaderLaws.{header-begins}
 use Rattle.query.specs.Records.{headerRecords, headersLeft, sectionRecords}
 use Rattle.query.specs.Sanity.{TotalsBounded}
 use mathlib.Core.Bool.{Bool, true, false, cond}
-use lib.Dec.{ltb, leb, eqb}
+use lib.Dec.{ltb, leb}
 use borrow.Author.Tests.{leb-true, leb-false}
 
 -- four times a product is at most the square of the sum
@@ -73,76 +65,6 @@ products-square a b = by-order (leb a b) refl
         let other = rw same at (ordered-products b (a - b)) in
         let turned : (b + a) * (b + a) ≡ (a + b) * (a + b) = ap (λ n. n * n) (omega arith) in
         omega (arith, other, turned, mul-comm a b)
-
--- the content of a header begins past the header's place: each field is read forward
-forward4 : (order : RunTimeEndian) (s : List ℕ) (at end : ℕ) (r : Read) → readNumber 4 order s at end ≡ answered r → at ≤ r .next
-forward4 order s at end r e =
-    let (ahead, inside) = read-forward 4 order s at end r (omega arith) e in
-    omega arith
-
-counts-forward : (order : RunTimeEndian) (s : List ℕ) (at end : ℕ) (n : Counts) → counts order s at end ≡ answered n → at ≤ n .next
-unfolding counts
-counts-forward order s at end n e =
-    let (c, r₁, e₁) = bind-answered (readNumber 4 order s at end) _ n e in
-    let (l, r₂, e₂) = bind-answered (readNumber 4 order s (c .next) end) _ n e₁ in
-    let (f, r₃, e₃) = bind-answered (readNumber 4 order s (l .next) end) _ n e₂ in
-    let (b, r₄, e₄) = bind-answered (readNumber 4 order s (f .next) end) _ n e₃ in
-    let (m, r₅, e₅) = bind-answered (readNumber 4 order s (b .next) end) _ n e₄ in
-    let (a, r₆, e₆) = bind-answered (readNumber 4 order s (m .next) end) _ n e₅ in
-    let (z, r₇, e₇) = bind-answered (readNumber 4 order s (a .next) end) _ n e₆ in
-    rw (ap (λ n. n .next) (sym (same-answer e₇)))
-    (le-trans (forward4 order s at end c r₁)
-    (le-trans (forward4 order s (c .next) end l r₂)
-    (le-trans (forward4 order s (l .next) end f r₃)
-    (le-trans (forward4 order s (f .next) end b r₄)
-    (le-trans (forward4 order s (b .next) end m r₅)
-    (le-trans (forward4 order s (m .next) end a r₆) (forward4 order s (a .next) end z r₇)))))))
-
-augmentation-forward : (size : ℕ) (s : List ℕ) (at end : ℕ) (a : ReadAugmentation) → augmentation size s at end ≡ answered a → at ≤ a .next
-unfolding augmentation
-augmentation-forward size s at end a = by-size (eqb size 0)
-  where
-    by-size : (t : Bool) → cond t (answered (record { augmentation = Augmentation.None; next = at })) (do
-      string ← cut size s at end
-      next ← skipped (padding size) s (string .end) end
-      answered (record { augmentation = Augmentation.Some (record { place = string .at; len = size }); next = next })) ≡ answered a → at ≤ a .next
-    by-size true e =
-        let past : a .next ≡ at = ap (λ a. a .next) (sym (same-answer e)) in
-        omega arith
-    by-size false e =
-        let (string, split, e₁) = bind-answered (cut size s at end) _ a e in
-        let (next, skip, e₂) = bind-answered (skipped (padding size) s (string .end) end) _ a e₁ in
-        let (begins, ends, within) = cut-answered size s at end string split in
-        let (inside, place-is) = skip-answered (padding size) s (string .end) end next skip in
-        let past : a .next ≡ next = ap (λ a. a .next) (sym (same-answer e₂)) in
-        omega arith
-
-body-begins : (order : RunTimeEndian) (s : List ℕ) (c : HeaderCut) (h : NameIndexHeader) → headerBody order s c ≡ answered h → c .body .at ≤ h .content .at
-unfolding headerBody
-body-begins order s c h e =
-    let end = c .body .end in
-    let (version, read, e₁) = bind-answered (readNumber 2 order s (c .body .at) end) _ h e in
-    let (u, five, e₂) = then-answered (demand (eqb (version .value) 5) 3 (version .value)) _ h e₁ in
-    let (padded, skip, e₃) = bind-answered (skipped 2 s (version .next) end) _ h e₂ in
-    let (n, count, e₄) = bind-answered (counts order s padded end) _ h e₃ in
-    let (a, read-a, e₅) = bind-answered (augmentation (n .«augmentation_string_size») s (n .next) end) _ h e₄ in
-    let begins : h .content .at ≡ a .next = ap (λ h. h .content .at) (sym (same-answer e₅)) in
-    let (inside, place-is) = skip-answered 2 s (version .next) end padded skip in
-    omega (
-      arith,
-      begins,
-      place-is,
-      read-forward 2 order s (c .body .at) end version (omega arith) read .0,
-      counts-forward order s padded end n count,
-      augmentation-forward (n .«augmentation_string_size») s (n .next) end a read-a,
-    )
-
-header-begins : (order : RunTimeEndian) (s : List ℕ) (at : ℕ) (h : NameIndexHeader) → header order s at ≡ answered h → at ≤ h .content .at
-unfolding header
-header-begins order s at h e =
-    let (c, split, body) = bind-answered (headerCut order s at) _ h e in
-    let (past, begins, inside) = cut-forward order s at c split in
-    omega (arith, body-begins order s c h body)
 
 -- the strings, the entry offsets and the pool of an index lie beside one another: with N names and a pool of P bytes, 8 N + P is at most
 -- the length of its parts
