@@ -22,10 +22,10 @@ use Rattle.forms.specs.Forms.{asFlag, asUnsigned, asOffset, formValue}
 use Rattle.attributes.specs.Attributes.{values, kept, noAttribute, first, facts}
 use Rattle.attributes.specs.Meaning.{unitNumberIn, unitNumber, numberedUnit, numberedTypeUnit, compileUnitOf, typeUnitOf, dieOffsetIn, dieOffset}
 use Rattle.entries.specs.Entries.{entry}
-use Rattle.entries.specs.Series.{seriesStart, seriesEntry, entriesFrom, series}
+use Rattle.entries.specs.Series.{seriesStart, seriesEntry, entriesFrom, series, nameEntries}
 use Rattle.hashes.specs.Table.{nthOf, storedStart, storedHash, bucketOf, namesFrom, runFrom, fromStart, run, storing, namesOfHash}
-use Rattle.hashes.specs.Lookups.{findByBucket, findByHash}
-use Rattle.tables.specs.Check.{startAbove, anyAbove, isMissed, missedNames, verdict, tableCheck}
+use Rattle.hashes.specs.Lookups.{bucketCursor, hashCursor, findByBucket, findByHash}
+use Rattle.tables.specs.Check.{checkOutcome, startAbove, anyAbove, isMissed, missedNames, verdict, tableCheck}
 use Rattle.records.specs.Units.{compileShown, typeShown, namedUnit, entryUnit}
 use Rattle.records.specs.Records.{shown, entryRecord}
 use Rattle.index_query.specs.Candidates.{candidates}
@@ -36,9 +36,40 @@ use Rattle.query.specs.Records.{headerRecords, headersLeft, sectionRecords}
 use Rattle.query.specs.Query.{queried, written, sectionQuery}
 use Rattle.demand3.specs.Expected.{stringMatches, hashMatches, nameIsMatch, matchingNames, recordsOfName, recordsOfIndex, expected}
 use Rattle.demand3.specs.Demand3.{of-none, and-then}
-use Rattle.demand3.proofs.QueryLaws.{query-finds}
-use Rattle.p_cases.specs.CaseA.{caseA, stringsA, headerA, indexA}
-use Rattle.p_cases.specs.Queries.{queryOfA, foundInA, AllOpenA, CompleteA, FoundA, twoIndexes, secondHeader, secondIndex, openedTwo, queryOfTwo, foundInTwo, AllOpenTwo, CompleteTwo, ExpectedTwo, openA, old, de}
+use Rattle.demand3.proofs.QueryLaws.{demand3}
+use Rattle.reader.specs.declared.endianity.RunTimeEndian.{RunTimeEndian}
+use Rattle.hashes.specs.declared.bucket.BucketIter.{BucketIter}
+use Rattle.hashes.specs.declared.bucket.BucketRead.{BucketRead}
+use Rattle.hashes.specs.Answers.{bucketOutcome}
+use Rattle.entries.specs.declared.series.EntriesRead.{EntriesRead}
+use Rattle.entries.specs.Answers.{entriesOutcome}
+use Rattle.tables.specs.declared.TableCheck.{TableCheck}
+use Rattle.p_cases.proofs.CaseA.{steps-of-a, bucket-steps-of-a, hash-of-a, hash-steps-of-a, lent-a}
+use Rattle.p_cases.specs.CaseA.{caseA, stringsA, headerA, indexA, stepsOfA, bucketStepsOfA, hashStepsOfA}
+use Rattle.p_cases.specs.Queries.{LookupsInA, AllListedInA, queryOfA, foundInA, AllOpenA, CompleteA, FoundA, twoIndexes, secondHeader, secondIndex, openedTwo, queryOfTwo, foundInTwo, AllOpenTwo, CompleteTwo, ExpectedTwo, openA, old, de}
+
+first-bucket : bucketOutcome (BucketRead.Value (BucketIter.Some (bucketCursor 0 0))) ≡ findByBucket RunTimeEndian.Little caseA indexA 0
+unfolding caseA indexA findByBucket fitted parts place placesFrom sizes wordBytes hashBytes longest readNumber skipped spelled digits
+first-bucket = refl
+
+first-series : entriesOutcome (EntriesRead.Value (record { at = 91 })) ≡ nameEntries RunTimeEndian.Little caseA indexA (record { 0 = 0 })
+unfolding caseA indexA nameEntries seriesStart nthWord fitted parts place placesFrom sizes wordBytes hashBytes longest readNumber skipped spelled digits
+first-series = refl
+
+pub lookups-in-a : LookupsInA
+lookups-in-a =
+    let (buckets, hashes, entries) = demand3 .lookups in (
+      buckets RunTimeEndian.Little caseA indexA 0 (bucketCursor 0 0) bucketStepsOfA first-bucket bucket-steps-of-a,
+      hashes RunTimeEndian.Little caseA indexA 9 (hashCursor 1 9 1) hashStepsOfA hash-of-a hash-steps-of-a,
+      entries RunTimeEndian.Little caseA indexA (record { 0 = 0 }) (record { at = 91 }) stepsOfA first-series steps-of-a,
+    )
+
+says-complete : checkOutcome TableCheck.Complete ≡ tableCheck RunTimeEndian.Little caseA indexA
+unfolding caseA indexA nthOf storedStart storedHash bucketOf namesFrom runFrom fromStart run numbersFrom filterb takeWhile memberb numberAt spelled digits fitted parts place placesFrom sizes wordBytes hashBytes longest startAbove anyAbove isMissed missedNames verdict tableCheck
+says-complete = refl
+
+pub all-listed-in-a : AllListedInA
+all-listed-in-a = demand3 .completeness RunTimeEndian.Little caseA indexA (lent-a .0) (lent-a .1) .0 says-complete
 
 pub query-of-a : queryOfA ≡ foundInA
 unfolding caseA stringsA headerA indexA sectionQuery queried written sectionRecords headersLeft headerRecords headersFrom headerAt header headerCut headerBody counts augmentation initialLength readNumber skipped cut spelled digits nameIndex indexOf cutParts passedOver parts place placesFrom sizes wordBytes hashBytes longest parsed ending table listing declaration withAttributes head attributes attributesIn pair leb128 numberOfBytes numberBytes someBeyond beyond complete base128 indexRecords candidates findByHash findByBucket namesOfHash run runFrom fromStart storing storedStart storedHash nthOf bucketOf namesFrom numbersFrom filterb takeWhile memberb numberAt matching nameMatches textIs sameBytes nameString nameStringOffset nthWord getStr zeroFrom beforeZero allSeries seriesRecords recordOfEntry shownBy followedBy itemsOf counted series seriesStart seriesEntry entriesFrom entry values kept noAttribute first facts formValue asFlag asUnsigned asOffset readByte find fitted entryRecord shown entryUnit namedUnit compileShown typeShown compileUnitOf typeUnitOf unitNumber unitNumberIn numberedUnit numberedTypeUnit compileUnit unitIn defaultCompileUnit dieOffset dieOffsetIn
@@ -53,7 +84,7 @@ unfolding caseA stringsA headerA indexA sectionQuery queried written sectionReco
 complete-a = and-then (inl refl) of-none
 
 pub found-a : FoundA
-found-a = query-finds _ caseA stringsA 7 de (old ∷ old ∷ []) _ 1 (openA ∷ []) all-open-a complete-a (sym query-of-a)
+found-a = demand3 .query _ caseA stringsA 7 de (old ∷ old ∷ []) _ 1 (openA ∷ []) all-open-a complete-a (sym query-of-a)
 
 pub query-of-two : queryOfTwo ≡ foundInTwo
 unfolding caseA stringsA headerA indexA sectionQuery queried written sectionRecords headersLeft headerRecords headersFrom headerAt header headerCut headerBody counts augmentation initialLength readNumber skipped cut spelled digits nameIndex indexOf cutParts passedOver parts place placesFrom sizes wordBytes hashBytes longest parsed ending table listing declaration withAttributes head attributes attributesIn pair leb128 numberOfBytes numberBytes someBeyond beyond complete base128 indexRecords candidates findByHash findByBucket namesOfHash run runFrom fromStart storing storedStart storedHash nthOf bucketOf namesFrom numbersFrom filterb takeWhile memberb numberAt matching nameMatches textIs sameBytes nameString nameStringOffset nthWord getStr zeroFrom beforeZero allSeries seriesRecords recordOfEntry shownBy followedBy itemsOf counted series seriesStart seriesEntry entriesFrom entry values kept noAttribute first facts formValue asFlag asUnsigned asOffset readByte find fitted entryRecord shown entryUnit namedUnit compileShown typeShown compileUnitOf typeUnitOf unitNumber unitNumberIn numberedUnit numberedTypeUnit compileUnit unitIn defaultCompileUnit dieOffset dieOffsetIn twoIndexes secondHeader secondIndex

@@ -1,6 +1,6 @@
--- Case A's query, and demand 3's third part on case A and on a section of two indexes of which one has no hash table: what it supposes holds
--- there, and what it says.
-use Prim.Native.Nat.{ℕ}
+-- Case A's query, and demand 3 on case A: what its first two parts say of it, and for the third, on case A and on a section of two indexes of
+-- which one has no hash table, that what it supposes holds there, and what it says.
+use Prim.Native.Nat.{ℕ, _^_, _<_}
 use mathlib.Core.Path.{_≡_}
 use mathlib.Core.List.{List, [], _∷_, _++_, map}
 use lib.ListN.{length, take, drop}
@@ -14,7 +14,24 @@ use Rattle.records.specs.declared.record.Record.{Record}
 use Rattle.query.specs.Query.{Queried, sectionQuery}
 use Rattle.demand3.specs.Expected.{OpenIndex, expected}
 use Rattle.demand3.specs.Demand3.{Each, AllOpen, CompleteOrNoTable}
-use Rattle.p_cases.specs.CaseA.{caseA, stringsA, headerA, indexA}
+use Rattle.reader.specs.Steps.{ListsInOrder}
+use Rattle.index.specs.Layout.{parts}
+use Rattle.entries.specs.Answers.{entryStepOf}
+use Rattle.hashes.specs.Table.{run, namesOfHash}
+use Rattle.hashes.specs.Demand3.{bucketAnswers, hashAnswers, bucketNames, hashNames}
+use Rattle.tables.specs.Demand3.{ListsAll}
+use Rattle.p_cases.specs.CaseA.{caseA, stringsA, headerA, indexA, seriesOfA, stepsOfA, bucketStepsOfA, hashStepsOfA}
+
+-- The first part: the steps of bucket 0, of hash 9 and of name 0 list the bucket's run, the names of the hash and the series.
+abbrev pub LookupsInA : Type 0
+LookupsInA =
+    ListsInOrder (bucketAnswers bucketStepsOfA) (bucketNames RunTimeEndian.Little caseA (parts indexA) (run RunTimeEndian.Little caseA indexA 0))
+    × ListsInOrder (hashAnswers hashStepsOfA) (hashNames (namesOfHash RunTimeEndian.Little caseA indexA 9))
+    × ListsInOrder (map (λ r. entryStepOf r .answer) stepsOfA) (seriesOfA 0)
+
+-- The second: the check says complete, and so each hash lists all names that store it.
+abbrev pub AllListedInA : Type 0
+AllListedInA = (hash : ℕ) → hash < 2 ^ 32 → ListsAll RunTimeEndian.Little caseA indexA hash
 
 -- a function's record in document 01's columns: index offset, entry offset, name number, tag 0x2e, unit kind 1 and its value, DIE offset
 abbrev pub functionAt : ℕ → ℕ → ℕ → ℕ → ℕ → Record
