@@ -1,8 +1,9 @@
 //! Brings gimli's own files into the build folder, unmodified.
 //!
 //! They are not kept in this repository: the environment variable GIMLI_SRC names the folder `src` of gimli 0.34.0. What is copied
-//! goes to Cargo's OUT_DIR, which lies in target/. Beside the copies go empty files for the other modules that gimli's read/mod.rs
-//! declares, and a file `modules.rs` that declares gimli's modules at the places of the copies; src/lib.rs includes it.
+//! goes to Cargo's OUT_DIR, which lies in target/. Beside the copies go stand-ins for the other modules that gimli's read/mod.rs
+//! declares, empty but for one item, and a file `modules.rs` that declares gimli's modules at the places of the copies; src/lib.rs
+//! includes it.
 
 use std::fs;
 use std::path::{Path, PathBuf};

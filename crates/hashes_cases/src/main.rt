@@ -30,6 +30,7 @@ fn main() {
         L32 large hashes; starts 1 2 3; hashes 4294967295 2147483647 2147483648 4294967294; find 4294967295 2147483647 2147483648 4294967294\n\
         L32 a start after the only name; starts 2; hashes 0; find 0\n\
         L32 the shortest interrupted run; starts 1 2; hashes 0 1 2; find 2\n\
+        L32 the shortest table in which a step goes on after an end; starts 1 0; hashes 1 0; find 0 1\n\
         L32 a name in the run of another bucket; starts 0 1; hashes 0; find 0\n",
     );
     // A start of 0 is an empty bucket, N+1 is taken, and a larger one is refused at the hashes. Without buckets the first start is

@@ -41,7 +41,7 @@ struct OfHash {
 }
 
 // The hash of a name, or none where there is no such name or no table.
-enum StoredHash {
+pub enum StoredHash {
     Some(u32),
     None,
 }
@@ -189,7 +189,7 @@ fn after(hash: u32) -> u32 {
 }
 
 // The hash of a name, read from the part that holds the hashes.
-fn hash_of(order: RunTimeEndian, s: &[u8], r: PartsRead, name: u32) -> StoredHash {
+pub fn hash_of(order: RunTimeEndian, s: &[u8], r: PartsRead, name: u32) -> StoredHash {
     let p = match r {
         PartsRead::Value(p) => p,
         PartsRead::Refused(_) => return StoredHash::None,

@@ -3,6 +3,7 @@ use crate::hash_table;
 use crate::line;
 use crate::name_strings;
 use crate::pool;
+use crate::queries;
 use crate::table;
 use crate::tally;
 use crate::tally::Tally;
@@ -106,6 +107,7 @@ fn open(order: RunTimeEndian, s: &[u8], strings: &[u8], h: NameIndexHeader, t: &
             table::abbreviations(s, i, t);
             hash_table::hash_table(order, s, i, t);
             pool::entries(order, s, i, t);
+            queries::queries(order, s, strings, i, t);
         }
         IndexRead::Refused(e) => tally::refused(t, e),
     }

@@ -9,6 +9,7 @@ mod header_steps; // header steps, and the index of each header
 mod line; // parts of a line
 mod name_strings; // names, their offsets and their strings
 mod pool; // the series of each name, and entries and their facts by handle
+mod queries; // the section query
 mod table; // the abbreviations by code
 mod tally; // how many lines of each call, and refusals, there are
 mod units; // counts and units
@@ -29,7 +30,7 @@ struct Head {
 }
 
 fn main() {
-    let mut tally = [0; 41];
+    let mut tally = [0; 43];
     replay(count(), &mut tally);
     tally::totals(&tally);
 }
@@ -133,5 +134,6 @@ fn answer(
         return cut_short();
     }
     header_steps::headers(order, &names[0..n], &strings[0..m], t);
+    queries::ask(order, &names[0..n], &strings[0..m], 0, 0, 0, t);
     true
 }

@@ -3,7 +3,7 @@ use crate::line;
 use reader::Error;
 
 // The sections are counted at 0, the refusals at their numbers, which are at most 14, and the calls from 15 on.
-pub type Tally = [u64; 41];
+pub type Tally = [u64; 43];
 
 pub const SECTIONS: usize = 0;
 
@@ -59,9 +59,13 @@ pub const PARENT: usize = 39;
 
 pub const TYPE_HASH: usize = 40;
 
+pub const QUERY: usize = 41;
+
+pub const RECORD: usize = 42;
+
 // One more at a place.
 pub fn add(t: &mut Tally, place: usize) {
-    if place < 41 {
+    if place < 43 {
         let n = t[place];
         t[place] = std::num::wrapping_add_u64(n, 1);
     }
@@ -102,14 +106,14 @@ fn refusals(t: &Tally) {
 }
 
 fn calls(t: &Tally) {
-    for place in HEADER..41 {
+    for place in HEADER..43 {
         word(place);
         total(t, place);
     }
 }
 
 fn total(t: &Tally, place: usize) {
-    if place < 41 {
+    if place < 43 {
         line::answered(t[place]);
     }
 }
@@ -143,6 +147,8 @@ fn word(place: usize) {
         DIE_OFFSET => show::text(b"die_offset"),
         PARENT => show::text(b"parent"),
         TYPE_HASH => show::text(b"type_hash"),
+        QUERY => show::text(b"query"),
+        RECORD => show::text(b"record"),
         _ => {}
     }
 }

@@ -13,7 +13,8 @@ use listing::section_lines;
 use reader::Error;
 use reader::RunTimeEndian;
 
-// More lines than any section of 65,536 bytes has, or of any length that is read.
+// How many lines are printed at most. No section has so many: it has at most 2,147,483,647 bytes, and each line but the last stands for
+// eight of them or more.
 const LINES: u32 = 4294967295;
 
 // The cursor after a step, and whether a line may follow.

@@ -1,4 +1,4 @@
--- Document 01, demand 3, for completeness: one theorem, in both directions. The law `complete-exactly` of proofs/CheckLaws.antt proves it.
+-- Document 01, demand 3, for completeness: one theorem, in both directions. The law `complete-exactly` of proofs/CompleteLaws.antt proves it.
 use Prim.Native.Nat.{ℕ, _^_, _<_}
 use mathlib.Core.Path.{_≡_}
 use mathlib.Core.Bool.{true}

@@ -110,6 +110,7 @@ pub fn check_table(order: RunTimeEndian, section: &[u8], index: NameIndex) -> Ta
     if any_above(order, section, starts, index.bucket_count, index.name_count) {
         return TableCheck::Refused(Error::UnexpectedEof(hashes));
     }
+    // Before the first name the segment has a bucket that no name has, so that the first name begins a segment.
     let mut segment = Segment {
         bucket: index.bucket_count,
         first: 0,

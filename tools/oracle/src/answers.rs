@@ -2,7 +2,7 @@
 //! crates/oracle_replay writes the same lines from this project's library.
 //!
 //! To add calls: a function here that asks gimli and writes a line for each call, called from `opened`, and the same lines in the same
-//! order in crates/oracle_replay. `hashes` has those on hash tables, `pool` those on entries.
+//! order in crates/oracle_replay. `hashes` has those on hash tables, `pool` those on entries, `query` the section query.
 
 use std::collections::BTreeMap;
 use std::fmt::Display;
@@ -12,6 +12,7 @@ use crate::case::Case;
 use crate::hashes;
 use crate::lent::{Bytes, Lent, Memory};
 use crate::pool;
+use crate::query;
 use gimli::{DebugNames, DebugStr, NameAbbreviation, NameIndex, NameIndexHeader, NameTableIndex, NameTypeUnit};
 
 /// A damaged section may claim many units or names: no more than this many of a list are asked for, and the two after them.
@@ -21,7 +22,7 @@ pub const MOST: u32 = 40;
 const CODES: [u64; 8] = [0, 1, 2, 3, 127, 128, 300, u64::MAX];
 
 /// The calls, by the first words of their lines. A refused header step counts as `header`, although its line has no such word.
-pub const CALLS: [&str; 26] = [
+pub const CALLS: [&str; 28] = [
     "header",
     "end",
     "index",
@@ -48,6 +49,8 @@ pub const CALLS: [&str; 26] = [
     "die_offset",
     "parent",
     "type_hash",
+    "query",
+    "record",
 ];
 
 /// gimli refuses with these numbers.
@@ -134,6 +137,7 @@ pub fn ask(number: usize, case: &Case, out: &mut Answers) {
     let lent = memory.lend();
     out.line(&format!("section {number}"));
     headers(&lent, out);
+    query::empty_name(&lent, out);
 }
 
 /// gimli's answers for one case alone.
@@ -211,6 +215,7 @@ fn opened(lent: &Lent, index: &NameIndex<Bytes>, out: &mut Answers) {
     abbreviations(index, out);
     hashes::hash_table(lent, index, out);
     pool::entries(lent, index, out);
+    query::queries(lent, index, out);
 }
 
 fn counts(index: &NameIndex<Bytes>, out: &mut Answers) {

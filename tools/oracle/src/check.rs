@@ -18,8 +18,8 @@ const SECTIONS: usize = 2000;
 /// How often each refusal must be met, and each call be answered, and be refused.
 const TIMES: usize = 20;
 
-/// The calls that gimli does not refuse on an index that it opened, and the step that says end.
-const NEVER_REFUSED: [&str; 7] = [
+/// The calls that gimli does not refuse on an index that it opened, the step that says end, and the lines of records.
+const NEVER_REFUSED: [&str; 8] = [
     "end",
     "counts",
     "default_compile_unit",
@@ -27,9 +27,29 @@ const NEVER_REFUSED: [&str; 7] = [
     "abbreviation",
     "next_in_bucket",
     "next_of_hash",
+    "record",
 ];
 
-/// There are enough sections, damaged ones, refusals, and lines of each call.
+/// The kinds of answers that queries must have as often; a refusal of each number but 10 is one too. The last eight are counted for each
+/// record.
+const QUERIES: [&str; 14] = [
+    "total 0",
+    "total 1 to 4",
+    "total above 4",
+    "refused after a record",
+    "several indexes",
+    "an entry twice",
+    "no unit",
+    "a compile unit",
+    "the default unit",
+    "a local type unit",
+    "a foreign type unit",
+    "by hash",
+    "without a hash table",
+    "no DIE offset",
+];
+
+/// There are enough sections, damaged ones, refusals, lines of each call, and kinds of answers of queries.
 pub fn enough(sections: usize, damaged: usize, answers: &Answers) {
     assert!(sections >= SECTIONS && 2 * damaged >= sections, "too few sections");
     for number in REFUSALS {
@@ -40,6 +60,19 @@ pub fn enough(sections: usize, damaged: usize, answers: &Answers) {
         assert!(answered >= TIMES, "{call} is not answered often enough");
         let never = NEVER_REFUSED.contains(&call);
         assert!(if never { refused == 0 } else { refused >= TIMES }, "{call} is refused {refused} times");
+    }
+    queries(answers);
+}
+
+/// A query reads no entry by its handle alone, so that no refusal has the number 10.
+fn queries(answers: &Answers) {
+    let count = |kind: &str| answers.kinds.get(&format!("query: {kind}")).copied().unwrap_or(0);
+    for kind in QUERIES {
+        assert!(count(kind) >= TIMES, "too few queries: {kind}");
+    }
+    for number in REFUSALS {
+        let refused = count(&format!("refused {number}"));
+        assert!(if number == 10 { refused == 0 } else { refused >= TIMES }, "queries are refused {number} {refused} times");
     }
 }
 

@@ -10,7 +10,7 @@ use crate::random::Random;
 pub type Damage = fn(&mut Random, Section) -> Case;
 
 /// The damages. Those of the abbreviation table stand twice, since they have the most ways to go wrong.
-pub const DAMAGES: [Damage; 17] = [
+const DAMAGES: [Damage; 17] = [
     cut_with_length_kept,
     cut_with_length_adapted,
     byte_changed,
@@ -31,7 +31,7 @@ pub const DAMAGES: [Damage; 17] = [
 ];
 
 /// Damages of what entries are read from.
-pub const ENTRY_DAMAGES: [Damage; 6] = [
+const ENTRY_DAMAGES: [Damage; 6] = [
     entry_offset_wrong,
     pool_byte_changed,
     pool_bad_leb128,
@@ -41,7 +41,12 @@ pub const ENTRY_DAMAGES: [Damage; 6] = [
 ];
 
 /// Damages of hash tables.
-pub const TABLE_DAMAGES: [Damage; 2] = [start_changed, stored_hash_changed];
+const TABLE_DAMAGES: [Damage; 2] = [start_changed, stored_hash_changed];
+
+/// All of them.
+pub fn all() -> impl Iterator<Item = Damage> {
+    DAMAGES.into_iter().chain(ENTRY_DAMAGES).chain(TABLE_DAMAGES)
+}
 
 /// One of the indexes.
 fn some_index<'a>(random: &mut Random, section: &'a mut Section) -> &'a mut Index {

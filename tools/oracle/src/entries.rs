@@ -9,13 +9,13 @@ use crate::model::{Declaration, Index, Section};
 const FORMS: [u16; 12] = [0x0c, 0x19, 0x0b, 0x05, 0x06, 0x07, 0x0f, 0x11, 0x12, 0x13, 0x14, 0x15];
 
 /// Both byte orders and both formats.
-const BOTH: [(Order, bool); 2] = [(Order::Little, false), (Order::Big, true)];
+pub const BOTH: [(Order, bool); 2] = [(Order::Little, false), (Order::Big, true)];
 
 /// An attribute: its name, its form and its value.
-type Attribute = (u16, u16, u64);
+pub type Attribute = (u16, u16, u64);
 
 /// A declaration: its code, and the name and the form of each attribute.
-type Declared = (u64, Vec<(u16, u16)>);
+pub type Declared = (u64, Vec<(u16, u16)>);
 
 /// All of them.
 pub fn cases() -> Vec<Case> {
@@ -78,7 +78,7 @@ fn declaration((number, (code, attributes)): (usize, &Declared)) -> Declaration 
 }
 
 /// The bytes of a value; none where the form has none, or is unknown.
-fn value(order: Order, form: u16, number: u64) -> Vec<u8> {
+pub fn value(order: Order, form: u16, number: u64) -> Vec<u8> {
     let mut out = Writer::new(order);
     match form {
         0x0c | 0x0b | 0x11 => out.put(&[number as u8]),
@@ -147,6 +147,13 @@ fn packed(order: Order, wide: bool, entries: &[Vec<Attribute>]) -> Section {
     }
     indexes.push(index(wide, &declared, &pool, &[0]));
     section(order, indexes)
+}
+
+/// An index of one entry.
+pub fn one(order: Order, wide: bool, entry: &[Attribute]) -> Index {
+    let values = entry.iter().flat_map(|(_, form, number)| value(order, *form, *number));
+    let pool: Vec<u8> = [1].into_iter().chain(values).collect();
+    index(wide, &[(1, entry.iter().map(|(name, form, _)| (*name, *form)).collect())], &pool, &[0])
 }
 
 /// For each of the five names a section with an entry for each form.

@@ -154,7 +154,18 @@ name_entry 16 refused 10 16
 name_entry 17 refused 10 17
 name_entry 18 refused 1 109
 name_entry 19 refused 1 91
+query 4 1 3 1
+record 0 0 0 0 46 1 0 1 16
+query 7 1 3 0
+query 4 1 4 0
+query 4 1 2 0
+query 7 5 2 1
+record 0 0 6 1 46 1 0 1 32
+query 9 5 2 0
+query 9 6 1 1
+record 0 0 12 2 46 1 0 1 48
 end
+query 0 0 0 0
 ";
 
 fn little(names: &[u8]) -> Case {

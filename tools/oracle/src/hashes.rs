@@ -29,7 +29,7 @@ pub fn hash_table(lent: &Lent, index: &NameIndex<Bytes>, out: &mut Answers) {
 /// The hash that each name stores; none where there is no table. gimli gives the hash of a name only where a bucket's cursor comes to
 /// it, so they are read from the bytes. They begin where the starts of the buckets end: gimli's refusal of the bucket after the last
 /// has that place.
-fn stored(lent: &Lent, index: &NameIndex<Bytes>) -> Vec<u32> {
+pub fn stored(lent: &Lent, index: &NameIndex<Bytes>) -> Vec<u32> {
     if !index.has_hash_table() {
         return Vec::new();
     }

@@ -4,9 +4,9 @@
 //!
 //! README.md has the whole. What is where: `random`, the random numbers; `bytes`, numbers into bytes; `model`, what a section is
 //! made of; `valid`, valid sections; `damage`, damaged ones; `fixed`, `entries` and `tables`, sections that are not random; `real`, those
-//! of compilers, linkers and gdb; `case`, the file of sections; `lent`, the sections as gimli reads them and its errors as refusals;
-//! `answers`, the calls, `hashes`, those on hash tables, and `pool`, those on entries; `check`, what must hold of gimli, of the valid
-//! sections and of the whole. The library of this package, src/lib.rs, is gimli.
+//! of compilers, linkers and gdb; `several`, those for the query; `case`, the file of sections; `lent`, the sections as gimli reads them
+//! and its errors as refusals; `answers`, the calls, `hashes`, those on hash tables, `pool`, those on entries, and `query`, the query;
+//! `check`, what must hold of gimli, of the valid sections and of the whole. The library of this package, src/lib.rs, is gimli.
 
 mod answers;
 mod bytes;
@@ -19,8 +19,10 @@ mod hashes;
 mod lent;
 mod model;
 mod pool;
+mod query;
 mod random;
 mod real;
+mod several;
 mod tables;
 mod valid;
 
@@ -29,13 +31,16 @@ use std::path::Path;
 use answers::{Answers, CALLS, REFUSALS};
 use case::Case;
 use damage::Damage;
+use model::Section;
 use random::Random;
 
 const SEED: u64 = 0x0064_6562_7567_0005;
 
-/// How many random sections of each kind: valid ones, and damaged ones for each damage.
+/// How many random sections of each kind: valid ones, and damaged ones for each damage; and valid ones of several indexes for the query,
+/// of which there is one for each damage.
 const VALID: usize = 300;
 const EACH_DAMAGE: usize = 56;
+const SEVERAL: usize = 30;
 
 /// The sections.
 struct Made {
@@ -53,23 +58,33 @@ fn made() -> Made {
         made.add_damaged(&whole, cut);
     }
     made.cases.extend(entries::cases());
-    for _ in 0..VALID {
-        let case = Case::encoded(&valid::section(&mut random));
-        check::valid(&case);
-        made.cases.push(case);
-    }
-    for _ in 0..EACH_DAMAGE {
-        for damage in damage::DAMAGES.iter().chain(&damage::ENTRY_DAMAGES).chain(&damage::TABLE_DAMAGES) {
-            let (valid, case) = damaged(&mut random, *damage);
-            made.add_damaged(&valid, case);
-        }
-    }
+    made.add_random(&mut random, valid::section, VALID, EACH_DAMAGE);
     made.cases.extend(tables::cases());
     made.cases.extend(real::cases());
+    made.cases.extend(several::cases());
+    made.add_random(&mut random, several::section, SEVERAL, 1);
     made
 }
 
+/// Makes a valid section.
+type Maker = fn(&mut Random) -> Section;
+
 impl Made {
+    /// Adds random sections: that many valid ones, and that many with each damage.
+    fn add_random(&mut self, random: &mut Random, maker: Maker, valid: usize, each_damage: usize) {
+        for _ in 0..valid {
+            let case = Case::encoded(&maker(random));
+            check::valid(&case);
+            self.cases.push(case);
+        }
+        for _ in 0..each_damage {
+            for damage in damage::all() {
+                let (valid, case) = damaged(random, maker, damage);
+                self.add_damaged(&valid, case);
+            }
+        }
+    }
+
     /// Adds a section that was made from a valid one by a damage.
     fn add_damaged(&mut self, valid: &Case, case: Case) {
         self.damaged += 1;
@@ -79,9 +94,9 @@ impl Made {
 }
 
 /// A valid section, and the same with a damage, by which its bytes are other ones.
-fn damaged(random: &mut Random, damage: Damage) -> (Case, Case) {
+fn damaged(random: &mut Random, maker: Maker, damage: Damage) -> (Case, Case) {
     loop {
-        let section = valid::section(random);
+        let section = maker(random);
         let valid = Case::encoded(&section);
         let case = damage(random, section);
         if case.names != valid.names || case.strings != valid.strings {

@@ -9,7 +9,7 @@ abbrev Inv-loop : tie.InvT-loop
 Inv-loop t place₀ place = 0 ≤ place
 
 abbrev μ-loop : tie.MeasureT-loop
-μ-loop t place₀ place = 41 - place
+μ-loop t place₀ place = 43 - place
 
 loop-holds : tie.Need-loop-holds Inv-loop μ-loop
 loop-holds c = search needs
