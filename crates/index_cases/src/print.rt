@@ -1,4 +1,5 @@
 // What the program prints: the name of a case and the answer, on one line.
+use crate::line::name_of;
 use abbreviations::Abbreviation;
 use abbreviations::AbbreviationRead;
 use abbreviations::AttributeRead;
@@ -27,29 +28,24 @@ use names::TypeUnitRead;
 use names::UnitRead;
 use reader::Error;
 
-// The name of a case, and a name that ends with a number.
-pub fn case(name: &[u8]) {
-    show::text(name);
+// The name of the case of a line, and the name with a number behind it.
+pub fn case(line: &[u8]) {
+    show::text(name_of(line));
     show::text(b":");
 }
 
-pub fn numbered(name: &[u8], n: u64) {
-    show::text(name);
+pub fn numbered(line: &[u8], n: u64) {
+    show::text(name_of(line));
     number(n);
     show::text(b":");
 }
 
-// The name of a case in two parts: what is asked, and the call.
-pub fn call(on: &[u8], name: &[u8]) {
-    show::text(on);
+// The name of the case, and that of a call.
+pub fn call(line: &[u8], call: &[u8]) {
+    show::text(name_of(line));
     show::text(b", ");
-    case(name);
-}
-
-pub fn numbered_call(on: &[u8], name: &[u8], n: u64) {
-    show::text(on);
-    show::text(b", ");
-    numbered(name, n);
+    show::text(call);
+    show::text(b":");
 }
 
 // A number, after a space.
@@ -60,6 +56,10 @@ pub fn number(n: u64) {
 
 fn end() {
     show::text(b"\n");
+}
+
+fn ok() {
+    show::text(b" ok");
 }
 
 // The cursor after a step, and the end of the line.
@@ -85,7 +85,7 @@ pub fn header_step(r: HeaderStep) {
             cursor(c.at as u64)
         }
         HeaderStep::Header(h, c) => {
-            show::text(b" ok");
+            ok();
             header(h);
             cursor(c.at as u64)
         }
@@ -97,7 +97,7 @@ pub fn header_step(r: HeaderStep) {
 pub fn header_read(r: HeaderRead) {
     match r {
         HeaderRead::Value(h) => {
-            show::text(b" ok");
+            ok();
             header(h);
             end()
         }
@@ -144,7 +144,7 @@ pub fn cut_read(r: HeaderCutRead) {
             let offset = c.offset;
             let format = c.format;
             let body = c.body;
-            show::text(b" ok");
+            ok();
             number(offset.0 as u64);
             number(c.length as u64);
             number(format.word_size() as u64);
@@ -160,7 +160,7 @@ pub fn cut_read(r: HeaderCutRead) {
 pub fn index_read(r: IndexRead) {
     match r {
         IndexRead::Value(i) => {
-            show::text(b" ok");
+            ok();
             index(i);
             end()
         }
@@ -185,7 +185,7 @@ fn index(i: NameIndex) {
 pub fn parts_read(r: PartsRead) {
     match r {
         PartsRead::Value(p) => {
-            show::text(b" ok");
+            ok();
             parts(p);
             end()
         }
@@ -242,38 +242,30 @@ pub fn signature(r: SignatureRead) {
 
 pub fn type_unit(r: TypeUnitRead) {
     match r {
-        TypeUnitRead::Value(u) => either(u),
+        TypeUnitRead::Value(u) => match u {
+            NameTypeUnit::Local(o) => {
+                show::text(b" ok local");
+                number(o.0 as u64);
+                end()
+            }
+            NameTypeUnit::Foreign(t) => {
+                show::text(b" ok foreign");
+                number(t.0);
+                end()
+            }
+        },
         TypeUnitRead::Refused(e) => show::refused(e),
-    }
-}
-
-fn either(u: NameTypeUnit) {
-    match u {
-        NameTypeUnit::Local(o) => {
-            show::text(b" ok local");
-            number(o.0 as u64);
-            end()
-        }
-        NameTypeUnit::Foreign(t) => {
-            show::text(b" ok foreign");
-            number(t.0);
-            end()
-        }
     }
 }
 
 // The only compile unit, or none.
 pub fn default_unit(r: DefaultUnitRead) {
     match r {
-        DefaultUnitRead::Value(u) => only(u),
+        DefaultUnitRead::Value(u) => match u {
+            DefaultUnit::Some(o) => show::ok1(o.0 as u64),
+            DefaultUnit::None => show::text(b" ok none\n"),
+        },
         DefaultUnitRead::Refused(e) => show::refused(e),
-    }
-}
-
-fn only(u: DefaultUnit) {
-    match u {
-        DefaultUnit::Some(o) => show::ok1(o.0 as u64),
-        DefaultUnit::None => show::text(b" ok none\n"),
     }
 }
 
@@ -285,7 +277,7 @@ pub fn name_step(r: NameTableStep) {
             cursor(place(c))
         }
         NameTableStep::Name(name, c) => {
-            show::text(b" ok");
+            ok();
             number(name.0 as u64);
             cursor(place(c))
         }
@@ -324,20 +316,16 @@ pub fn table(r: TableRead) {
 // What a search found: code, tag, the place of the pairs and the place past them, or none.
 pub fn abbreviation(r: AbbreviationRead) {
     match r {
-        AbbreviationRead::Value(a) => found(a),
+        AbbreviationRead::Value(a) => match a {
+            Abbreviation::Found(d) => declared(d),
+            Abbreviation::NotFound => show::text(b" ok none\n"),
+        },
         AbbreviationRead::Refused(e) => show::refused(e),
     }
 }
 
-fn found(a: Abbreviation) {
-    match a {
-        Abbreviation::Found(d) => declared(d),
-        Abbreviation::NotFound => show::text(b" ok none\n"),
-    }
-}
-
 fn declared(d: NameAbbreviation) {
-    show::text(b" ok");
+    ok();
     number(d.code);
     number(d.tag as u64);
     number(d.attributes as u64);

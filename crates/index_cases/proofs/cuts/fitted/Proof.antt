@@ -6,10 +6,10 @@ use Rattle.index_cases.proofs.cuts.fitted.Statement.{statement}
 use Rattle.index_cases.proofs.cuts.fitted.Tie as tie
 
 abbrev Inv-loop : tie.InvT-loop
-Inv-loop n₀ n = 0 ≤ n
+Inv-loop line n₀ n = 0 ≤ n
 
 abbrev μ-loop : tie.MeasureT-loop
-μ-loop n₀ n = 110 - n
+μ-loop line n₀ n = 110 - n
 
 loop-holds : tie.Need-loop-holds Inv-loop μ-loop
 loop-holds c = search needs

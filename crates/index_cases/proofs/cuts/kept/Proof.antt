@@ -6,16 +6,19 @@ use Rattle.index_cases.proofs.cuts.kept.Statement.{statement}
 use Rattle.index_cases.proofs.cuts.kept.Tie as tie
 
 abbrev Inv-loop : tie.InvT-loop
-Inv-loop a n₀ n = 0 ≤ n
+Inv-loop line a n₀ n = 0 ≤ n
 
 abbrev μ-loop : tie.MeasureT-loop
-μ-loop a n₀ n = 110 - n
+μ-loop line a n₀ n = 110 - n
 
 loop-holds : tie.Need-loop-holds Inv-loop μ-loop
 loop-holds c = search needs
 
-cut-requires : tie.Need-cut-requires Inv-loop μ-loop
-cut-requires c κs = search needs
+numbered-requires : tie.Need-numbered-requires Inv-loop μ-loop
+numbered-requires c κs = search needs
+
+start-requires : tie.Need-start-requires Inv-loop μ-loop
+start-requires c κs = search needs
 
 add-n : tie.Need-add-n Inv-loop μ-loop
 add-n c = search needs
@@ -31,4 +34,14 @@ returns c = search needs
 
 pub kept-spec : {M : Type 1} → statement M
 kept-spec =
-    tie.close (tie.spec Inv-loop μ-loop loop-holds cut-requires add-n loop-less loop-again returns)
+    tie.close
+    (tie.spec
+    Inv-loop
+    μ-loop
+    loop-holds
+    numbered-requires
+    start-requires
+    add-n
+    loop-less
+    loop-again
+    returns)
