@@ -11,6 +11,20 @@ use Rattle.reader.specs.declared.common.Format.{Format}
 use Rattle.index.specs.declared.layout.NameIndex.{NameIndex}
 use Rattle.index.specs.declared.layout.Parts.{Parts}
 
+-- an index without names and units, which fits every section
+unfoldable pub noIndex : NameIndex
+noIndex = record {
+  format = Format.Dwarf32;
+  «compile_unit_count» = 0;
+  «local_type_unit_count» = 0;
+  «foreign_type_unit_count» = 0;
+  «bucket_count» = 0;
+  «name_count» = 0;
+  «abbrev_table_size» = 0;
+  begin = 0;
+  end = 0;
+}
+
 -- the bytes of n words
 unfoldable pub wordBytes : Format → ℕ → ℕ
 wordBytes format n = wordSize format * n

@@ -6,7 +6,7 @@ ghost use mathlib.Core.Path.{_≡_};
 ghost use Prim.Native.Nat.{_≤_};
 ghost use Rattle.reader.specs.Errors.{longest};
 ghost use Rattle.index.specs.Answers.{partsOutcome};
-ghost use Rattle.index.specs.Layout.{wordBytes, hashBytes, parts, fitted};
+ghost use Rattle.index.specs.Layout.{noIndex, wordBytes, hashBytes, parts, fitted};
 use reader::Error;
 use reader::Format;
 use reader::too_long;
@@ -23,6 +23,23 @@ pub struct NameIndex {
     // Where its parts begin, and where its pool ends.
     pub begin: usize,
     pub end: usize,
+}
+
+// An index without names and units, which fits every section: for a cursor that has opened no index yet.
+pub fn no_index() -> NameIndex
+    ensures { λ r. ⌜ r ≡ noIndex ⌝ }
+{
+    NameIndex {
+        format: Format::Dwarf32,
+        compile_unit_count: 0,
+        local_type_unit_count: 0,
+        foreign_type_unit_count: 0,
+        bucket_count: 0,
+        name_count: 0,
+        abbrev_table_size: 0,
+        begin: 0,
+        end: 0,
+    }
 }
 
 // The place where each part of an index begins. Each ends where the next begins, and the pool ends at `end`.

@@ -11,6 +11,7 @@ pub use layout::NameIndex;
 pub use layout::Parts;
 pub use layout::PartsRead;
 pub use layout::fit;
+pub use layout::no_index;
 pub use layout::words;
 pub use open::IndexRead;
 pub use open::index;

@@ -32,7 +32,7 @@ matchesAt order s strs i hash text from = orBroken (candidatesAt order s i hash 
 unfoldable pub recordsAt : RunTimeEndian → List ℕ → List ℕ → ℕ → List ℕ → ℕ → NameIndex → ℕ → Listing Record
 recordsAt order s strs hash text offset i from = allSeries order s offset i (matchesAt order s strs i hash text from)
 
--- the records of the entries from a place on, in the series of a name.
+-- the records of the entries from a place on, in the series of a name;
 unfoldable pub entryRecords : RunTimeEndian → List ℕ → ℕ → NameIndex → Parts → ℕ → ℕ → Listing Record
 entryRecords order s offset i p name at = shownBy (recordOfEntry order s offset i name) (entriesFrom order s p at)
 

@@ -23,6 +23,7 @@ use Rattle.headers.specs.Header.{header}
 use Rattle.headers.specs.Headers.{afterHeader, headerStep, headerAt, headersFrom}
 use Rattle.headers.proofs.HeaderLaws.{header-fits, headers-step, header-step-at}
 use Rattle.reader.specs.Lists.{numbersFrom}
+use Rattle.index.specs.Layout.{noIndex}
 use Rattle.hashes.specs.Table.{namesFrom}
 use Rattle.hashes.proofs.TableLaws.{names-step}
 use Rattle.listing.specs.declared.name.NameLine.{NameLine}
@@ -139,5 +140,5 @@ module _ (order : RunTimeEndian) (s : List ℕ) where
       by-done false e (inr bounds) = by-names (leb (c .index .«name_count») (c .name .0)) e bounds (rw e) (rw (e, names-step (c .index) (c .name .0)))
 
 pub lines-listed : LinesListed
-unfolding sectionLines firstLine nameLines namesFrom numbersFrom
+unfolding sectionLines firstLine noIndex nameLines namesFrom numbersFrom
 lines-listed order s steps linked = steps-list lineStepOf (lineStep order s) (Reached order s) (left order s) (each order s) steps firstLine (inr (omega arith, omega arith)) linked

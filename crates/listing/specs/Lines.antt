@@ -10,10 +10,10 @@ use Rattle.reader.specs.Errors.{longest}
 use Rattle.reader.specs.Steps.{Step}
 use Rattle.reader.specs.Listing.{Listing, ended, broken, item, orBroken}
 use Rattle.reader.specs.declared.endianity.RunTimeEndian.{RunTimeEndian}
-use Rattle.reader.specs.declared.common.Format.{Format}
 use Rattle.headers.specs.declared.header.NameIndexHeader.{NameIndexHeader}
 use Rattle.headers.specs.Headers.{headerStep, headersFrom}
 use Rattle.index.specs.declared.layout.NameIndex.{NameIndex}
+use Rattle.index.specs.Layout.{noIndex}
 use Rattle.hashes.specs.Table.{namesFrom}
 use Rattle.listing.specs.declared.lines.Line.{Line}
 use Rattle.listing.specs.declared.lines.ListingIter.{ListingIter}
@@ -39,23 +39,7 @@ sectionLines order s = orBroken (refuseIf (ltb longest (length s)) 13 0) λ u. h
 
 -- the cursor before the first line: no index is open
 unfoldable pub firstLine : ListingIter
-firstLine = record {
-  at = 0;
-  listed = 0;
-  index = record {
-    format = Format.Dwarf32;
-    «compile_unit_count» = 0;
-    «local_type_unit_count» = 0;
-    «foreign_type_unit_count» = 0;
-    «bucket_count» = 0;
-    «name_count» = 0;
-    «abbrev_table_size» = 0;
-    begin = 0;
-    end = 0;
-  };
-  name = record { 0 = 0 };
-  done = false;
-}
+firstLine = record { at = 0; listed = 0; index = noIndex; name = record { 0 = 0 }; done = false }
 
 -- a cursor whose listing has ended, one after a name, and one after an index's own line
 abbrev pub endedAt : ListingIter → ListingIter
@@ -72,12 +56,12 @@ abbrev pub lineOr : {A : Type 0} → ListingIter → Outcome A → (A → Step L
 lineOr c (answered a) more = more a
 lineOr c (refused n v) more = record { answer = refused n v; cursor = endedAt c }
 
--- the line of the header at the cursor's place, or after the last the number of indexes; a cursor that has listed more indexes than there
--- are bytes before its place does not fit
+-- the line of the header at the cursor's place, or after the last the number of indexes
 abbrev pub headerLine : RunTimeEndian → List ℕ → ListingIter → Option NameIndexHeader → Step Line ListingIter
 headerLine order s c none = record { answer = answered (some (Line.Indexes (c .listed))); cursor = endedAt c }
 headerLine order s c (some h) = lineOr c (openedIndex order s h) λ o. record { answer = answered (some (Line.Index (o .line))); cursor = pastIndex c h (o .index) }
 
+-- the step to the next index: a cursor that has listed more indexes than there are bytes before its place does not fit
 unfoldable pub headStep : RunTimeEndian → List ℕ → ListingIter → Step Line ListingIter
 headStep order s c = lineOr c (refuseIf (ltb (c .at) (c .listed)) 14 0) λ u. lineOr c (headerStep order s (record { at = c .at }) .answer) (headerLine order s c)
 

@@ -11,8 +11,8 @@ ghost use Rattle.listing.specs.Lines.{firstLine, endedAt, headStep, line
 use headers::HeaderStep;
 use headers::NameIndexHeaderIter;
 use index::NameIndex;
+use index::no_index;
 use reader::Error;
-use reader::Format;
 use reader::NameTableIndex;
 use reader::RunTimeEndian;
 
@@ -45,20 +45,11 @@ pub enum ListingStep {
 pub fn section_lines() -> ListingIter
     ensures { λ r. ⌜ r ≡ firstLine ⌝ }
 {
+    let index = no_index();
     ListingIter {
         at: 0,
         listed: 0,
-        index: NameIndex {
-            format: Format::Dwarf32,
-            compile_unit_count: 0,
-            local_type_unit_count: 0,
-            foreign_type_unit_count: 0,
-            bucket_count: 0,
-            name_count: 0,
-            abbrev_table_size: 0,
-            begin: 0,
-            end: 0,
-        },
+        index: index,
         name: NameTableIndex(0),
         done: false,
     }

@@ -18,7 +18,7 @@ use Rattle.headers.specs.declared.header.NameIndexHeader.{NameIndexHeader}
 use Rattle.headers.specs.Header.{headerCut, headerBody, header}
 use Rattle.headers.specs.Headers.{headerAt, headersFrom}
 use Rattle.headers.proofs.HeaderLaws.{cut-forward, body-answered, headers-step}
-use Rattle.index.specs.Layout.{parts, place, placesFrom, sizes, wordBytes, hashBytes, fitted}
+use Rattle.index.specs.Layout.{noIndex, parts, place, placesFrom, sizes, wordBytes, hashBytes, fitted}
 use Rattle.index.specs.Open.{nameIndex}
 use Rattle.index.proofs.LayoutLaws.{fitted-fits}
 use Rattle.hashes.specs.Table.{namesFrom}
@@ -31,7 +31,7 @@ use Rattle.index_query.specs.Records.{matchesAt}
 use Rattle.index_query.specs.Records.{allSeries, indexRecords, recordsAt, indexLeft}
 use Rattle.index_query.proofs.RecordLaws.{records-ended, left-fits}
 use Rattle.query.proofs.HeaderLaws.{cut-offset, body-says}
-use Rattle.query.specs.Records.{headerRecords, headersLeft, sectionRecords, queryLeft, noIndex, firstRecord}
+use Rattle.query.specs.Records.{headerRecords, headersLeft, sectionRecords, queryLeft, firstRecord}
 
 -- what a header that was read says: its offset is its place, and its index ends past it, inside the section
 pub header-read : (order : RunTimeEndian) (s : List ℕ) (at : ℕ) (c : HeaderCut) (h : NameIndexHeader) → answered c ≡ headerCut order s at → answered h ≡ headerBody order s c

@@ -8,10 +8,9 @@ use Rattle.reader.specs.Outcome.{refuseIf}
 use Rattle.reader.specs.Errors.{longest}
 use Rattle.reader.specs.Listing.{Listing, ended, broken, item, orBroken, followedBy}
 use Rattle.reader.specs.declared.endianity.RunTimeEndian.{RunTimeEndian}
-use Rattle.reader.specs.declared.common.Format.{Format}
 use Rattle.headers.specs.declared.header.NameIndexHeader.{NameIndexHeader}
 use Rattle.headers.specs.Headers.{headersFrom}
-use Rattle.index.specs.declared.layout.NameIndex.{NameIndex}
+use Rattle.index.specs.Layout.{noIndex}
 use Rattle.index.specs.Open.{nameIndex}
 use Rattle.records.specs.declared.record.Record.{Record}
 use Rattle.index_query.specs.Records.{indexRecords, indexLeft}
@@ -38,20 +37,6 @@ unfoldable pub queryLeft : RunTimeEndian → List ℕ → List ℕ → ℕ → L
 queryLeft order s strs hash text c =
     followedBy (indexLeft order s strs hash text (c .offset) (c .index) (c .records)) (headersLeft order s strs hash text (c .at))
 
--- an index without names, which is open before the first header,
-unfoldable pub noIndex : NameIndex
-noIndex = record {
-  format = Format.Dwarf32;
-  «compile_unit_count» = 0;
-  «local_type_unit_count» = 0;
-  «foreign_type_unit_count» = 0;
-  «bucket_count» = 0;
-  «name_count» = 0;
-  «abbrev_table_size» = 0;
-  begin = 0;
-  end = 0;
-}
-
--- and the cursor there
+-- the cursor before the first header: no index is open
 unfoldable pub firstRecord : QueryIter
 firstRecord = record { at = 0; offset = 0; index = noIndex; records = record { name = record { 0 = 0 }; at = 0; next = 0 } }

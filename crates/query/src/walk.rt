@@ -10,12 +10,12 @@ use headers::cut_header;
 use headers::parse_body;
 use index::IndexRead;
 use index::NameIndex;
+use index::no_index;
 use index_query::IndexIter;
 use index_query::IndexStep;
 use index_query::StartRead;
 use index_query::start;
 use reader::Error;
-use reader::Format;
 use reader::NameTableIndex;
 use reader::RunTimeEndian;
 use records::Record;
@@ -43,24 +43,15 @@ pub enum NextIndex {
     Refused(Error),
 }
 
-// The cursor before the first header: an index without names is open.
+// The cursor before the first header: no index is open.
 pub fn first_record() -> QueryIter
     ensures { λ r. ⌜ r ≡ firstRecord ⌝ }
 {
+    let index = no_index();
     QueryIter {
         at: 0,
         offset: 0,
-        index: NameIndex {
-            format: Format::Dwarf32,
-            compile_unit_count: 0,
-            local_type_unit_count: 0,
-            foreign_type_unit_count: 0,
-            bucket_count: 0,
-            name_count: 0,
-            abbrev_table_size: 0,
-            begin: 0,
-            end: 0,
-        },
+        index: index,
         records: IndexIter {
             name: NameTableIndex(0),
             at: 0,

@@ -1,14 +1,16 @@
 -- `query::walk::first_record` meets its contract: each answer is the definition's, by the calls and the tests that led there.
 -- Assumes nothing.
-use mathlib.Core.Path.{refl}
-use Rattle.query.specs.Records.{noIndex, firstRecord}
+use borrow.Author.Needs.{needs}
+use Rattle.query.specs.Records.{firstRecord}
 use Rattle.query.proofs.walk.first_record.Statement.{statement}
 use Rattle.query.proofs.walk.first_record.Tie as tie
 
+no-index-requires : tie.Need-no-index-requires
+no-index-requires c κs = search needs
+
 returns : tie.Need-returns
-unfolding firstRecord noIndex
-returns c =
-    refl
+unfolding firstRecord
+returns c = rw (← c .no-index .ensures)
 
 pub first-record-spec : {M : Type 1} → statement M
-first-record-spec = tie.close (tie.spec returns)
+first-record-spec = tie.close (tie.spec no-index-requires returns)
