@@ -1,26 +1,29 @@
 -- Laws of the abbreviation table: pairs and declarations one at a time, with no count of turns, and what each answer tells.
-use Prim.Native.Nat.{ℕ, zero, suc, _-_, _≤_, _<_}
+use Prim.Native.Nat.{ℕ, zero, suc, _+_, _-_, _*_, _%_, _/_, _≤_, _<_}
 use mathlib.Core.Path.{_≡_, refl, sym, ap, _∙_}
 use mathlib.Core.Bool.{Bool, true, false, cond}
 use mathlib.Core.Logic.{_⊎_, inl, inr}
 use mathlib.Core.List.{List, []}
 use mathlib.Core.Option.{Option, some, none, Option·none-ne-some, Option·some-injective}
 use native.Mathlib.Omega.{arith}
-use lib.Dec.{eqb}
+use lib.Dec.{ltb, eqb}
 use lib.Seq.{slice}
-use borrow.Author.Tests.{eq-eqb, eqb-true}
+use borrow.Author.Tests.{eq-eqb, ne-eqb, eqb-true, ltb-false}
 use Rattle.reader.specs.Outcome.{Outcome, answered, refused, _>>=_, _>>_, demand, refuseIf}
 use Rattle.reader.specs.Parts.{partEnd, leftAt, Forward}
+use Rattle.reader.specs.Numbers.{Read, readByte}
 use Rattle.leb128.specs.Leb128.{leb128, unsignedLimit, u16Limit}
 use Rattle.reader.specs.Listing.{listed, listing, Advances}
 use Rattle.reader.proofs.OutcomeLaws.{refused-answered, same-answer, bind-answered, then-answered, bind-both, cond-is}
 use Rattle.reader.proofs.PartLaws.{slice-from, slice-left}
+use Rattle.reader.proofs.NumberLaws.{byte-answered}
 use Rattle.leb128.proofs.Leb128Laws.{leb128-forward, leb128-none, leb128-part}
+use Rattle.leb128.proofs.Leb128Limits.{unsigned-one, u16-one}
 use Rattle.reader.proofs.ListingLaws.{listing-step, listing-agree}
 use Rattle.abbreviations.specs.declared.NameAbbreviation.{NameAbbreviation}
 use Rattle.abbreviations.specs.declared.Abbreviation.{Abbreviation}
 use Rattle.abbreviations.specs.Sanity.{TablesUnfold, DeclarationsForward, DeclarationsRead, FoundInTable, TablesInPart}
-use Rattle.abbreviations.specs.Abbreviations.{Pair, pair, Attributes, before, attributesIn, attributes, attributesEnd, Head, head, Declaration, withAttributes, declaration, table, ending, parsed, find, handed, handedOut, handedOn, found, declared}
+use Rattle.abbreviations.specs.Abbreviations.{shortPair, Pair, pair, Attributes, before, attributesIn, attributes, attributesEnd, Head, head, Declaration, withAttributes, declaration, table, ending, parsed, find, handed, handedOut, handedOn, found, declared}
 
 -- the test of a pair
 abbrev tested : ℕ → ℕ → Outcome (Unit {0})
@@ -42,6 +45,99 @@ pair-forward s at end p e =
 pub pair-none : (s : List ℕ) (at end : ℕ) → leftAt s at end < 1 → pair s at end ≡ refused 1 at
 unfolding pair
 pair-none s at end h = rw (leb128-none u16Limit s at end h)
+
+-- What a short pair says: it is of two bytes, and both are 0 or neither is.
+pub record Short (s : List ℕ) (at end : ℕ) : Type 0 where
+  pub a : Read
+  pub b : Read
+  pub first : readByte s at end ≡ answered a
+  pub second : readByte s (a .next) end ≡ answered b
+  pub low : a .value < 128
+  pub high : b .value < 128
+  pub number : shortPair s at end ≡ a .value + 256 * b .value
+  pub passes : tested (a .value) (b .value) ≡ answered tt
+
+short-is : (s : List ℕ) (at end : ℕ) → (shortPair s at end ≡ 65535 → ⊥) → Short s at end
+unfolding shortPair
+short-is s at end some-pair = first-byte (readByte s at end) refl
+  where
+    low-byte : (v : ℕ) → ltb 127 v ≡ false → v < 128
+    low-byte v e = omega (arith, ltb-false 127 v e)
+
+    first-byte : (o : Outcome Read) → readByte s at end ≡ o → Short s at end
+    first-byte (refused n v) e = absurd (some-pair (rw e))
+    first-byte (answered a) e = second-byte (readByte s (a .next) end) refl
+      where
+        second-byte : (o : Outcome Read) → readByte s (a .next) end ≡ o → Short s at end
+        second-byte (refused n v) f = absurd (some-pair (rw (e, f)))
+        second-byte (answered b) f = low-bytes (ltb 127 (a .value)) refl (ltb 127 (b .value)) refl (eqb (a .value) 0) refl (eqb (b .value) 0) refl
+          where
+            made : ltb 127 (a .value) ≡ false → ltb 127 (b .value) ≡ false → shortPair s at end ≡ a .value + 256 * b .value → tested (a .value) (b .value) ≡ answered tt → Short s at end
+            made et eu number passes =
+                record { a = a; b = b; first = e; second = f; low = low-byte (a .value) et; high = low-byte (b .value) eu; number = number; passes = passes }
+
+            low-bytes : (t : Bool) → ltb 127 (a .value) ≡ t → (u : Bool) → ltb 127 (b .value) ≡ u → (y : Bool) → eqb (a .value) 0 ≡ y → (z : Bool) → eqb (b .value) 0 ≡ z
+                → Short s at end
+            low-bytes true et u eu y ey z ez = absurd (some-pair (rw (e, f, et)))
+            low-bytes false et true eu y ey z ez = absurd (some-pair (rw (e, f, et, eu)))
+            low-bytes false et false eu true ey false ez = absurd (some-pair (rw (e, f, et, eu, ey, ez)))
+            low-bytes false et false eu false ey true ez = absurd (some-pair (rw (e, f, et, eu, ey, ez)))
+            low-bytes false et false eu true ey true ez = made et eu (rw (e, f, et, eu, ey, ez)) (rw (ey, ez))
+            low-bytes false et false eu false ey false ez = made et eu (rw (e, f, et, eu, ey, ez)) (rw (ey, ez))
+
+-- where it ends, inside its part
+pub short-place : (s : List ℕ) (at end : ℕ) → (shortPair s at end ≡ 65535 → ⊥) → (at + 2 ≤ partEnd s end)
+short-place s at end some-pair =
+    let two = short-is s at end some-pair in
+    let (here, is-a, past) = byte-answered s at end (two .a) (two .first) in
+    let (there, is-b, beyond) = byte-answered s (two .a .next) end (two .b) (two .second) in
+    omega (arith, here, past, there, beyond)
+
+-- it is a pair of name and form
+pub pair-short : (s : List ℕ) (at end : ℕ) → (shortPair s at end ≡ 65535 → ⊥)
+    → pair s at end ≡ answered (record { name = shortPair s at end % 256; form = shortPair s at end / 256; next = at + 2 })
+unfolding pair
+pair-short s at end some-pair =
+    let two = short-is s at end some-pair in
+    let (here, is-a, past) = byte-answered s at end (two .a) (two .first) in
+    let (there, is-b, beyond) = byte-answered s (two .a .next) end (two .b) (two .second) in
+    let name : two .a .value ≡ shortPair s at end % 256 = omega (arith, two .number, two .low) in
+    let form : two .b .value ≡ shortPair s at end / 256 = omega (arith, two .number, two .low) in
+    let next : two .b .next ≡ at + 2 = omega (arith, here, past, there, beyond) in
+    rw (u16-one s at end (two .a) (two .first) (two .low), u16-one s (two .a .next) end (two .b) (two .second) (two .high), two .passes, name, form, next)
+
+-- one that is not 0 has no 0
+both-some : (x y : ℕ) → tested x y ≡ answered tt → (x + 256 * y ≡ 0 → ⊥) → (eqb x 0 ≡ false) × (eqb y 0 ≡ false)
+both-some x y passes some-there = by-tests (eqb x 0) refl (eqb y 0) refl
+  where
+    by-tests : (t : Bool) → eqb x 0 ≡ t → (u : Bool) → eqb y 0 ≡ u → (eqb x 0 ≡ false) × (eqb y 0 ≡ false)
+    by-tests true et true eu = absurd (some-there (omega (arith, eqb-true x 0 et, eqb-true y 0 eu)))
+    by-tests true et false eu = absurd (refused-answered (rw (et, eu) at passes))
+    by-tests false et true eu = absurd (refused-answered (rw (et, eu) at passes))
+    by-tests false et false eu = (et, eu)
+
+-- such a one is a code and a tag
+pub head-short : (s : List ℕ) (at end : ℕ) → (shortPair s at end ≡ 65535 → ⊥) → (shortPair s at end ≡ 0 → ⊥)
+    → head s at end ≡ answered (some (record { code = shortPair s at end % 256; tag = shortPair s at end / 256; next = at + 2 }))
+unfolding head
+head-short s at end some-pair not-last =
+    let two = short-is s at end some-pair in
+    let (here, is-a, past) = byte-answered s at end (two .a) (two .first) in
+    let (there, is-b, beyond) = byte-answered s (two .a .next) end (two .b) (two .second) in
+    let (code-some, tag-some) = both-some (two .a .value) (two .b .value) (two .passes) (λ e. not-last (two .number ∙ e)) in
+    let code : two .a .value ≡ shortPair s at end % 256 = omega (arith, two .number, two .low) in
+    let tag : two .b .value ≡ shortPair s at end / 256 = omega (arith, two .number, two .low) in
+    let next : two .b .next ≡ at + 2 = omega (arith, past, beyond) in
+    rw (
+      ne-eqb (leftAt s at end) 0 (λ e. omega (arith, here, e)),
+      unsigned-one s at end (two .a) (two .first) (two .low),
+      code-some,
+      u16-one s (two .a .next) end (two .b) (two .second) (two .high),
+      tag-some,
+      code,
+      tag,
+      next,
+    )
 
 -- a pair, and what it says of the pairs after it
 abbrev pub withPair : Outcome Pair → (Pair → Outcome Attributes) → Outcome Attributes
@@ -94,6 +190,17 @@ attributes-end-step s at end = rw (attributes-step s at end) (ends (pair s at en
     ends (answered p) more = choice (eqb (p .name) 0) p (more p)
     ends (refused n v) more = refl
 
+-- past a short pair that is not 0 the pairs go on, and at 0 they end
+pub pairs-on : (s : List ℕ) (at end : ℕ) → (shortPair s at end ≡ 65535 → ⊥) → (shortPair s at end ≡ 0 → ⊥) → attributesEnd s at end ≡ attributesEnd s (at + 2) end
+pairs-on s at end some-pair not-last =
+    let two = short-is s at end some-pair in
+    let (name-some, form-some) = both-some (two .a .value) (two .b .value) (two .passes) (λ e. not-last (two .number ∙ e)) in
+    let name : two .a .value ≡ shortPair s at end % 256 = omega (arith, two .number, two .low) in
+    attributes-end-step s at end ∙ rw (pair-short s at end some-pair, ← name, name-some)
+
+pub pairs-last : (s : List ℕ) (at end : ℕ) → shortPair s at end ≡ 0 → attributesEnd s at end ≡ answered (at + 2)
+pairs-last s at end last = attributes-end-step s at end ∙ rw (pair-short s at end (λ e. omega (arith, last, e)), last)
+
 -- they move forward, and stay inside their part
 attributes-forward-in : (k : ℕ) (s : List ℕ) (at end : ℕ) (a : Attributes) → attributesIn k s at end ≡ answered a → Forward s at end (a .next)
 unfolding attributesIn
@@ -120,24 +227,24 @@ pub attributes-forward : (s : List ℕ) (at end : ℕ) (a : Attributes) → attr
 unfolding attributes
 attributes-forward s at end a e = attributes-forward-in (leftAt s at end) s at end a e
 
+-- the side of a choice that is not none
+not-none : (h : Head) (t : Bool) (m : Outcome (Option Head)) → cond t (answered none) m ≡ answered (some h) → (t ≡ false) × (m ≡ answered (some h))
+not-none h true m e = absurd (Option·none-ne-some _ (same-answer e))
+not-none h false m e = (refl, e)
+
 -- the code and the tag move forward, and stay inside their part
 pub head-forward : (s : List ℕ) (at end : ℕ) (h : Head) → head s at end ≡ answered (some h) → Forward s at end (h .next)
 unfolding head
 head-forward s at end h e =
-    let (some-left, e₁) = other (eqb (leftAt s at end) 0) _ e in
+    let (some-left, e₁) = not-none h (eqb (leftAt s at end) 0) _ e in
     let (code, read-code, e₂) = bind-answered (leb128 unsignedLimit s at end) _ (some h) e₁ in
-    let (not-zero, e₃) = other (eqb (code .value) 0) _ e₂ in
+    let (not-zero, e₃) = not-none h (eqb (code .value) 0) _ e₂ in
     let (tag, read-tag, e₄) = bind-answered (leb128 u16Limit s (code .next) end) _ (some h) e₃ in
     let (u, passes, e₅) = then-answered (refuseIf (eqb (tag .value) 0) 4 0) _ (some h) e₄ in
     let past : h .next ≡ tag .next = ap (λ h. h .next) (sym (Option·some-injective _ _ (same-answer e₅))) in
     let (code-ahead, code-inside) = leb128-forward unsignedLimit s at end code read-code in
     let (tag-ahead, tag-inside) = leb128-forward u16Limit s (code .next) end tag read-tag in
     (omega arith, omega arith)
-  where
-    -- the side of a choice that is not none
-    other : (t : Bool) (m : Outcome (Option Head)) → cond t (answered none) m ≡ answered (some h) → (t ≡ false) × (m ≡ answered (some h))
-    other true m e = absurd (Option·none-ne-some _ (same-answer e))
-    other false m e = (refl, e)
 
 -- what an answered declaration says: its attributes are those that its place has, and its place lies ahead
 pub declaration-read : DeclarationsRead
@@ -205,17 +312,6 @@ decide (answered none) last more = last
 decide (answered (some d)) last more = more d
 decide (refused n v) last more = refused n v
 
--- the whole table is read by a declaration and the table after it
-pub parsed-step : (s : List ℕ) (at end : ℕ) → parsed s at end ≡ decide (declared s at end) (answered tt) λ d. parsed s (d .next) end
-unfolding parsed declared ending
-parsed-step s at end = rw (table-step s at end) (by-cases (declaration s at end))
-  where
-    by-cases : (o : Outcome (Option Declaration))
-        → ending (listed o λ d. table s (d .next) end) ≡ decide (o >>= λ d. answered (handedOn d)) (answered tt) λ d. ending (table s (d .next) end)
-    by-cases (answered none) = refl
-    by-cases (answered (some d)) = refl
-    by-cases (refused n v) = refl
-
 -- the search is answered by a declaration or by the table after it
 pub found-step : (code : ℕ) (s : List ℕ) (at end : ℕ)
     → found code s at end ≡ decide (declared s at end) (answered Abbreviation.NotFound) λ d. cond (eqb (d .code) code) (answered (Abbreviation.Found d)) (found code s (d .next) end)
@@ -234,6 +330,53 @@ found-step code s at end = rw (table-step s at end) (by-cases (declaration s at 
     by-cases (answered (some d)) = chosen (eqb (d .code) code) d (find code (table s (d .next) end))
     by-cases (refused n v) = refl
 
+-- no declaration has code 0
+head-code : (s : List ℕ) (at end : ℕ) (h : Head) → head s at end ≡ answered (some h) → eqb (h .code) 0 ≡ false
+unfolding head
+head-code s at end h e =
+    let (some-left, e₁) = not-none h (eqb (leftAt s at end) 0) _ e in
+    let (code, read-code, e₂) = bind-answered (leb128 unsignedLimit s at end) _ (some h) e₁ in
+    let (not-zero, e₃) = not-none h (eqb (code .value) 0) _ e₂ in
+    let (tag, read-tag, e₄) = bind-answered (leb128 u16Limit s (code .next) end) _ (some h) e₃ in
+    let (u, passes, e₅) = then-answered (refuseIf (eqb (tag .value) 0) 4 0) _ (some h) e₄ in
+    let this : code .value ≡ h .code = ap (λ h. h .code) (Option·some-injective _ _ (same-answer e₅)) in
+    rw (sym this) not-zero
+
+code-some : (s : List ℕ) (at end : ℕ) (d : Declaration) → declaration s at end ≡ answered (some d) → eqb (d .code) 0 ≡ false
+unfolding declaration withAttributes
+code-some s at end d e =
+    let (o, read, rest) = bind-answered (head s at end) _ (some d) e in
+    by-cases o read rest
+  where
+    by-cases : (o : Option Head) → head s at end ≡ answered o → withAttributes s end o ≡ answered (some d) → eqb (d .code) 0 ≡ false
+    by-cases none read rest = absurd (Option·none-ne-some _ (same-answer rest))
+    by-cases (some h) read rest =
+        let (a, pairs, same) = bind-answered (attributes s (h .next) end) _ (some d) rest in
+        let this : h .code ≡ d .code = ap (λ d. d .code) (Option·some-injective _ _ (same-answer same)) in
+        rw (sym this) (head-code s at end h read)
+
+-- so the search for it reads the whole table
+parsed-in : (turns : ℕ) (s : List ℕ) (at end : ℕ)
+    → ending (listing (λ place. declaration s place end) (λ d. d .next) turns at)
+    ≡ ((find 0 (listing (λ place. declaration s place end) (λ d. d .next) turns at) >>= λ d. answered (handedOut d)) >>= λ o. answered tt)
+unfolding listing ending find
+parsed-in zero s at end = refl
+parsed-in (suc turns) s at end = by-cases (declaration s at end) refl (λ next. parsed-in turns s next end)
+  where
+    by-cases : (o : Outcome (Option Declaration)) → declaration s at end ≡ o
+        → ((next : ℕ)
+        → ending (listing (λ place. declaration s place end) (λ d. d .next) turns next)
+        ≡ ((find 0 (listing (λ place. declaration s place end) (λ d. d .next) turns next) >>= λ d. answered (handedOut d)) >>= λ o. answered tt))
+        → ending (listed o λ d. listing (λ place. declaration s place end) (λ d. d .next) turns (d .next))
+        ≡ ((find 0 (listed o λ d. listing (λ place. declaration s place end) (λ d. d .next) turns (d .next)) >>= λ d. answered (handedOut d)) >>= λ o. answered tt)
+    by-cases (answered none) read more = refl
+    by-cases (answered (some d)) read more = rw (code-some s at end d read) (more (d .next))
+    by-cases (refused n v) read more = refl
+
+pub parsed-found : (s : List ℕ) (at end : ℕ) → parsed s at end ≡ (found 0 s at end >>= λ o. answered tt)
+unfolding parsed found table
+parsed-found s at end = parsed-in (partEnd s end - at) s at end
+
 -- a declaration that was handed on moves forward, and stays inside its part
 pub declared-forward : (s : List ℕ) (at end : ℕ) (d : NameAbbreviation) → declared s at end ≡ answered (some d) → Forward s at end (d .next)
 unfolding declared
@@ -247,6 +390,16 @@ declared-forward s at end d e =
         let (ahead, inside) = declaration-forward s at end f read in
         let past : d .next ≡ f .next = ap (λ a. a .next) (sym (Option·some-injective _ _ same)) in
         (omega arith, omega arith)
+
+-- a head and the pairs after it move forward
+pub parts-forward : (s : List ℕ) (at end : ℕ) (h : Head) (next : ℕ) → head s at end ≡ answered (some h) → attributesEnd s (h .next) end ≡ answered next → Forward s at end next
+unfolding attributesEnd
+parts-forward s at end h next read skipped =
+    let (ahead, inside) = head-forward s at end h read in
+    let (a, pairs, same) = bind-answered (attributes s (h .next) end) _ next skipped in
+    let (further, within) = attributes-forward s (h .next) end a pairs in
+    let past : next ≡ a .next = sym (same-answer same) in
+    (omega arith, omega arith)
 
 -- the table looks at no byte outside its part: pairs, heads, declarations and so the table are the same in sections with the same
 -- bytes there

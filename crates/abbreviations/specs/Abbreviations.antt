@@ -1,12 +1,13 @@
 -- The abbreviation table: document 01, "Abbreviations"; DWARF 5, section 6.1.1.4.7. `s` is the section, and the table is its part
 -- from `at` up to `end`.
-use Prim.Native.Nat.{ℕ, zero, suc, _-_}
+use Prim.Native.Nat.{ℕ, zero, suc, _+_, _-_, _*_}
 use mathlib.Core.Bool.{cond}
 use mathlib.Core.List.{List, [], _∷_}
 use mathlib.Core.Option.{Option, some, none}
-use lib.Dec.{eqb}
+use lib.Dec.{ltb, eqb}
 use Rattle.reader.specs.Outcome.{Outcome, answered, refused, _>>=_, _>>_, demand, refuseIf}
 use Rattle.reader.specs.Parts.{partEnd, leftAt}
+use Rattle.reader.specs.Numbers.{readByte}
 use Rattle.leb128.specs.Leb128.{leb128, unsignedLimit, u16Limit}
 use Rattle.reader.specs.Listing.{Listing, ended, broken, item, listing}
 use Rattle.abbreviations.specs.declared.NameAbbreviation.{NameAbbreviation}
@@ -122,7 +123,22 @@ found code s at end = do
   d ← find code (table s at end)
   answered (handedOut d)
 
--- the parts of these that single functions of the code answer: the place past the pairs, and one declaration
+-- What single functions of the code answer.
+-- Two bytes below 128, both 0 or neither of them, as one number, and 65535 where there are none such: a short pair (`pair-short`).
+abbrev orOther : Outcome ℕ → ℕ
+orOther (answered n) = n
+orOther (refused n v) = 65535
+
+unfoldable pub shortPair : List ℕ → ℕ → ℕ → ℕ
+shortPair s at end = orOther (do
+  a ← readByte s at end
+  b ← readByte s (a .next) end
+  refuseIf (ltb 127 (a .value)) 0 0
+  refuseIf (ltb 127 (b .value)) 0 0
+  cond (eqb (a .value) 0) (demand (eqb (b .value) 0) 0 0) (refuseIf (eqb (b .value) 0) 0 0)
+  answered (a .value + 256 * b .value))
+
+-- the place past the pairs, and one declaration
 unfoldable pub attributesEnd : List ℕ → ℕ → ℕ → Outcome ℕ
 attributesEnd s at end = do
   a ← attributes s at end

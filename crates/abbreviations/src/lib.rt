@@ -6,12 +6,14 @@
 ghost use mathlib.Core.Path.{_≡_};
 ghost use Rattle.reader.specs.Answers.{skipOutcome};
 ghost use Rattle.abbreviations.specs.Answers.{attributeOutcome, headOutcome, declarationOutcome, tableOutcome, abbreviationOutcome};
-ghost use Rattle.abbreviations.specs.Abbreviations.{pair, attributesEnd, head, declared, parsed, found};
+ghost use Rattle.abbreviations.specs.Abbreviations.{shortPair, pair, attributesEnd, head, declared, parsed, found};
 use reader::Error;
 use reader::Skipped;
+use reader::U8Read;
 use reader::U16Read;
 use reader::U64Read;
 use reader::is_empty;
+use reader::read_u8;
 
 // A pair of name and form, and the place past it. Name and form are both 0 in the pair that closes a declaration, and both not
 // 0 in every other.
@@ -71,8 +73,42 @@ pub enum AbbreviationRead {
     Refused(Error),
 }
 
+// What stands for two bytes that are no short pair.
+const OTHER: u16 = 65535;
+
+// Two bytes below 128, both 0 or neither of them, as the first and 256 times the second; `OTHER` stands for all else. Nearly all of a table
+// is of such bytes, and a plain number is handed on in a register.
+fn short_pair(s: &[u8], at: usize, end: usize) -> u16
+    ensures { λ r. ⌜ r ≡ shortPair (now (s .entry)) at end ⌝ }
+{
+    let a = match read_u8(s, at, end) {
+        U8Read::Value(r) => r,
+        U8Read::Refused(_) => return OTHER,
+    };
+    let b = match read_u8(s, a.next, end) {
+        U8Read::Value(r) => r,
+        U8Read::Refused(_) => return OTHER,
+    };
+    if 127 < a.value {
+        return OTHER;
+    }
+    if 127 < b.value {
+        return OTHER;
+    }
+    if a.value == 0 {
+        if b.value == 0 {
+            return 0;
+        }
+        return OTHER;
+    }
+    if b.value == 0 {
+        return OTHER;
+    }
+    (a.value as u16) + 256 * (b.value as u16)
+}
+
 // The pair of name and form at `at`: (0, f) is refused with 5 and (n, 0) with 6.
-pub fn read_attribute(s: &[u8], at: usize, end: usize) -> AttributeRead
+fn long_attribute(s: &[u8], at: usize, end: usize) -> AttributeRead
     ensures { λ r. ⌜ attributeOutcome r ≡ pair (now (s .entry)) at end ⌝ }
 {
     let name = match leb128::read::u16(s, at, end) {
@@ -100,25 +136,48 @@ pub fn read_attribute(s: &[u8], at: usize, end: usize) -> AttributeRead
     AttributeRead::Value(pair)
 }
 
+// The same: a short pair here, all else apart.
+pub fn read_attribute(s: &[u8], at: usize, end: usize) -> AttributeRead
+    ensures { λ r. ⌜ attributeOutcome r ≡ pair (now (s .entry)) at end ⌝ }
+{
+    let two = short_pair(s, at, end);
+    if two == OTHER {
+        return long_attribute(s, at, end);
+    }
+    AttributeRead::Value(ReadAttribute {
+        name: two % 256,
+        form: two / 256,
+        next: at + 2,
+    })
+}
+
 // Passes over the pairs of a declaration, the closing (0, 0) included.
 fn skip_attributes(s: &[u8], at: usize, end: usize) -> Skipped
     ensures { λ r. ⌜ skipOutcome r ≡ attributesEnd (now (s .entry)) at end ⌝ }
 {
     let mut place = at;
     loop {
-        let a = match read_attribute(s, place, end) {
-            AttributeRead::Value(r) => r,
-            AttributeRead::Refused(e) => return Skipped::Refused(e),
-        };
-        if a.name == 0 {
-            return Skipped::To(a.next);
+        let two = short_pair(s, place, end);
+        if two == 0 {
+            return Skipped::To(place + 2);
         }
-        place = a.next;
+        if two == OTHER {
+            let a = match long_attribute(s, place, end) {
+                AttributeRead::Value(r) => r,
+                AttributeRead::Refused(e) => return Skipped::Refused(e),
+            };
+            if a.name == 0 {
+                return Skipped::To(a.next);
+            }
+            place = a.next;
+        } else {
+            place = place + 2;
+        }
     }
 }
 
 // The code and the tag of the declaration at `at`. The table ends at the end of its part, and at code 0.
-fn read_head(s: &[u8], at: usize, end: usize) -> HeadRead
+fn long_head(s: &[u8], at: usize, end: usize) -> HeadRead
     ensures { λ r. ⌜ headOutcome r ≡ head (now (s .entry)) at end ⌝ }
 {
     if is_empty(s, at, end) {
@@ -145,6 +204,24 @@ fn read_head(s: &[u8], at: usize, end: usize) -> HeadRead
     })
 }
 
+// The same: a code and a tag of one byte each here, all else apart.
+fn read_head(s: &[u8], at: usize, end: usize) -> HeadRead
+    ensures { λ r. ⌜ headOutcome r ≡ head (now (s .entry)) at end ⌝ }
+{
+    let two = short_pair(s, at, end);
+    if two == 0 {
+        return long_head(s, at, end);
+    }
+    if two == OTHER {
+        return long_head(s, at, end);
+    }
+    HeadRead::Value(Head {
+        code: (two % 256) as u64,
+        tag: two / 256,
+        next: at + 2,
+    })
+}
+
 // The declaration at `at`, or the end of the table.
 pub fn read_declaration(s: &[u8], at: usize, end: usize) -> DeclarationRead
     ensures { λ r. ⌜ declarationOutcome r ≡ declared (now (s .entry)) at end ⌝ }
@@ -165,22 +242,6 @@ pub fn read_declaration(s: &[u8], at: usize, end: usize) -> DeclarationRead
     }
 }
 
-// Reads the whole table, and refuses as the first bad declaration does (gimli's `NameAbbreviations::parse`).
-pub fn parse(s: &[u8], at: usize, end: usize) -> TableRead
-    ensures { λ r. ⌜ tableOutcome r ≡ parsed (now (s .entry)) at end ⌝ }
-{
-    let mut place = at;
-    loop {
-        match read_declaration(s, place, end) {
-            DeclarationRead::Value(d) => {
-                place = d.next;
-            }
-            DeclarationRead::End => return TableRead::Whole,
-            DeclarationRead::Refused(e) => return TableRead::Refused(e),
-        }
-    }
-}
-
 // The first declaration with a code (gimli's `NameAbbreviations::get`). In a table that was never read whole, a bad declaration
 // that is met before the wanted one ends, that one included, gives its own refusal.
 pub fn get(s: &[u8], at: usize, end: usize, code: u64) -> AbbreviationRead
@@ -188,15 +249,34 @@ pub fn get(s: &[u8], at: usize, end: usize, code: u64) -> AbbreviationRead
 {
     let mut place = at;
     loop {
-        match read_declaration(s, place, end) {
-            DeclarationRead::Value(d) => {
-                if d.code == code {
-                    return AbbreviationRead::Value(Abbreviation::Found(d));
-                }
-                place = d.next;
-            }
-            DeclarationRead::End => return AbbreviationRead::Value(Abbreviation::NotFound),
-            DeclarationRead::Refused(e) => return AbbreviationRead::Refused(e),
+        let head = match read_head(s, place, end) {
+            HeadRead::Value(h) => h,
+            HeadRead::End => return AbbreviationRead::Value(Abbreviation::NotFound),
+            HeadRead::Refused(e) => return AbbreviationRead::Refused(e),
+        };
+        let next = match skip_attributes(s, head.next, end) {
+            Skipped::To(past) => past,
+            Skipped::Refused(e) => return AbbreviationRead::Refused(e),
+        };
+        if head.code == code {
+            return AbbreviationRead::Value(Abbreviation::Found(NameAbbreviation {
+                code: head.code,
+                tag: head.tag,
+                attributes: head.next,
+                next: next,
+            }));
         }
+        place = next;
+    }
+}
+
+// Reads the whole table, and refuses as the first bad declaration does (gimli's `NameAbbreviations::parse`): the search for code 0, which no
+// declaration has.
+pub fn parse(s: &[u8], at: usize, end: usize) -> TableRead
+    ensures { λ r. ⌜ tableOutcome r ≡ parsed (now (s .entry)) at end ⌝ }
+{
+    match get(s, at, end, 0) {
+        AbbreviationRead::Value(_) => TableRead::Whole,
+        AbbreviationRead::Refused(e) => TableRead::Refused(e),
     }
 }

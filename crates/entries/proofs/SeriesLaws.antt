@@ -29,10 +29,10 @@ use Rattle.entries.specs.declared.entry.NameEntry.{NameEntry}
 use Rattle.entries.specs.declared.entry.WholeEntry.{WholeEntry}
 use Rattle.entries.specs.declared.series.NameEntryIter.{NameEntryIter}
 use Rattle.entries.specs.Answers.{entryStepOf}
-use Rattle.entries.specs.Sanity.{poolLength, SeriesUnfold, SeriesShort, HandlesLead}
+use Rattle.entries.specs.Sanity.{poolLength, SeriesUnfold, SeriesShort, HandlesLead, HandlesTell}
 use Rattle.entries.specs.Demand3.{EntryLookups}
-use Rattle.entries.specs.Entries.{Entry, orRefuse, entry, nameEntry, handed, nameEntryHanded, wholeOf, entryRead}
-use Rattle.entries.specs.Series.{seriesStart, seriesEntry, entriesFrom, series, cursorAt, nameEntries, moved, entryStep}
+use Rattle.entries.specs.Entries.{Entry, orRefuse, entry, nameEntry, handed, nameEntryHanded, Told, told, wholeOf, entryRead, wholeEntry}
+use Rattle.entries.specs.Series.{seriesStart, seriesEntry, entriesFrom, series, cursorAt, nameEntries, moved, stepShowing, entryStep, wholeStep}
 use Rattle.entries.proofs.EntryLaws.{entry-offset, entries-forward, pool-end}
 
 -- an entry of a series is one of the pool
@@ -88,67 +88,133 @@ series-short order s i name = by-start (seriesStart order s i name) refl
     by-start (refused n v) e = omega arith
 
 -- a step in the order of the code, which keeps the first attribute of each name and no list
-unfoldable pub movedBy : Parts → ℕ → Outcome (Option WholeEntry) → Step NameEntry NameEntryIter
+unfoldable pub movedBy : Parts → ℕ → Outcome (Option WholeEntry) → Step Told NameEntryIter
 movedBy p at (answered (some w)) = record {
-  answer = answered (some (record { offset = record { 0 = at - p .«entry_pool» }; «abbrev_code» = w .«abbrev_code»; tag = w .tag }));
+  answer = answered (some (record { offset = record { 0 = at - p .«entry_pool» }; entry = w }));
   cursor = cursorAt (w .next);
 }
 movedBy p at (answered none) = record { answer = answered none; cursor = cursorAt (p .end) }
 movedBy p at (refused n v) = record { answer = refused n v; cursor = cursorAt (p .end) }
 
-moved-read : (order : RunTimeEndian) (s : List ℕ) (p : Parts) (at : ℕ) → moved p (entry order s p at) ≡ movedBy p at (entryRead order s p at)
+moved-read : (order : RunTimeEndian) (s : List ℕ) (p : Parts) (at : ℕ) → moved told p (entry order s p at) ≡ movedBy p at (entryRead order s p at)
 unfolding moved movedBy entryRead
 moved-read order s p at = by-entry (entry order s p at) refl
   where
-    by-entry : (o : Outcome (Option Entry)) → entry order s p at ≡ o → moved p o ≡ movedBy p at (o >>= λ e. answered (wholeOf e))
+    by-entry : (o : Outcome (Option Entry)) → entry order s p at ≡ o → moved told p o ≡ movedBy p at (o >>= λ e. answered (wholeOf e))
     by-entry (answered none) read = refl
     by-entry (answered (some e)) read = rw (entry-offset order s p at e read)
     by-entry (refused n v) read = refl
 
-pub entry-step : (order : RunTimeEndian) (s : List ℕ) (i : NameIndex) (c : NameEntryIter) → entryStep order s i c ≡ keeping c (do
+pub whole-step : (order : RunTimeEndian) (s : List ℕ) (i : NameIndex) (c : NameEntryIter) → wholeStep order s i c ≡ keeping c (do
   p ← fitted s i
   refuseIf (ltb (c .at) (p .«entry_pool»)) 14 0
   refuseIf (ltb (p .end) (c .at)) 14 0
   answered (cond (eqb (leftAt s (c .at) (p .end)) 0) (record { answer = answered none; cursor = cursorAt (p .end) }) (movedBy p (c .at) (entryRead order s p (c .at)))))
-unfolding entryStep seriesEntry moved
-entry-step order s i c = ap (keeping c) (bind-same (fitted s i) _ _ λ p fits. rw (both p (eqb (leftAt s (c .at) (p .end)) 0)))
+unfolding wholeStep stepShowing seriesEntry moved
+whole-step order s i c = ap (keeping c) (bind-same (fitted s i) _ _ λ p fits. rw (both p (eqb (leftAt s (c .at) (p .end)) 0)))
   where
     both : (p : Parts) (t : Bool)
-        → moved p (cond t (answered none) (entry order s p (c .at))) ≡ cond t (record { answer = answered none; cursor = cursorAt (p .end) }) (movedBy p (c .at) (entryRead order s p (c .at)))
+        → moved told p (cond t (answered none) (entry order s p (c .at))) ≡ cond t (record { answer = answered none; cursor = cursorAt (p .end) }) (movedBy p (c .at) (entryRead order s p (c .at)))
     both p true = refl
     both p false = moved-read order s p (c .at)
 
+-- the step that shows less: what one pass tells of an entry, without its attributes and the place past it
+abbrev pub lessOf : Option Told → Option NameEntry
+lessOf none = none
+lessOf (some t) = some (record { offset = t .offset; «abbrev_code» = t .entry .«abbrev_code»; tag = t .entry .tag })
+
+abbrev pub less : Step Told NameEntryIter → Step NameEntry NameEntryIter
+less t = record { answer = t .answer >>= λ e. answered (lessOf e); cursor = t .cursor }
+
+pub entry-step : (order : RunTimeEndian) (s : List ℕ) (i : NameIndex) (c : NameEntryIter) → entryStep order s i c ≡ less (wholeStep order s i c)
+unfolding entryStep wholeStep stepShowing moved
+entry-step order s i c = by-fit (fitted s i)
+  where
+    by-entry : (p : Parts) (o : Outcome (Option Entry)) → moved handed p o ≡ less (moved told p o)
+    by-entry p (answered none) = refl
+    by-entry p (answered (some e)) = refl
+    by-entry p (refused n v) = refl
+
+    by-tests : (p : Parts) (t u : Bool)
+        → keeping c (do
+          refuseIf t 14 0
+          refuseIf u 14 0
+          answered (moved handed p (seriesEntry order s p (c .at))))
+        ≡ less (keeping c (do
+          refuseIf t 14 0
+          refuseIf u 14 0
+          answered (moved told p (seriesEntry order s p (c .at)))))
+    by-tests p true u = refl
+    by-tests p false true = refl
+    by-tests p false false = by-entry p (seriesEntry order s p (c .at))
+
+    by-fit : (o : Outcome Parts)
+        → keeping c (do
+          p ← o
+          refuseIf (ltb (c .at) (p .«entry_pool»)) 14 0
+          refuseIf (ltb (p .end) (c .at)) 14 0
+          answered (moved handed p (seriesEntry order s p (c .at))))
+        ≡ less (keeping c (do
+          p ← o
+          refuseIf (ltb (c .at) (p .«entry_pool»)) 14 0
+          refuseIf (ltb (p .end) (c .at)) 14 0
+          answered (moved told p (seriesEntry order s p (c .at)))))
+    by-fit (answered p) = by-tests p (ltb (c .at) (p .«entry_pool»)) (ltb (p .end) (c .at))
+    by-fit (refused n v) = refl
+
 -- a step that answers an entry passed its tests, and the entry is the one at the cursor's place
-kept-answer : (c : NameEntryIter) (o : Outcome (Step NameEntry NameEntryIter)) (e : NameEntry) → keeping c o .answer ≡ answered (some e)
-    → (t : Step NameEntry NameEntryIter) × (o ≡ answered t) × (t .answer ≡ answered (some e))
+kept-answer : {A : Type 0} (c : NameEntryIter) (o : Outcome (Step A NameEntryIter)) (e : A) → keeping c o .answer ≡ answered (some e)
+    → (t : Step A NameEntryIter) × (o ≡ answered t) × (t .answer ≡ answered (some e))
 kept-answer c (answered t) e same = (t, refl, same)
 kept-answer c (refused n v) e same = absurd (refused-answered same)
 
-moved-answer : (p : Parts) (o : Outcome (Option Entry)) (e : NameEntry) → moved p o .answer ≡ answered (some e) → (f : Entry) × (o ≡ answered (some f)) × (handed f ≡ e)
+moved-answer : {A : Type 0} (shown : Entry → A) (p : Parts) (o : Outcome (Option Entry)) (e : A) → moved shown p o .answer ≡ answered (some e)
+    → (f : Entry) × (o ≡ answered (some f)) × (shown f ≡ e)
 unfolding moved
-moved-answer p (answered none) e same = absurd (Option·none-ne-some _ (same-answer same))
-moved-answer p (answered (some f)) e same = (f, refl, Option·some-injective _ _ (same-answer same))
-moved-answer p (refused n v) e same = absurd (refused-answered same)
+moved-answer shown p (answered none) e same = absurd (Option·none-ne-some _ (same-answer same))
+moved-answer shown p (answered (some f)) e same = (f, refl, Option·some-injective _ _ (same-answer same))
+moved-answer shown p (refused n v) e same = absurd (refused-answered same)
 
-pub handles-lead : HandlesLead
-unfolding entryStep nameEntryHanded nameEntry
-handles-lead order s i c e gave =
+-- the handle of an entry of the pool leads to that entry
+pool-lead : (order : RunTimeEndian) (s : List ℕ) (i : NameIndex) (p : Parts) (at : ℕ) (f : Entry) → fitted s i ≡ answered p → p .«entry_pool» ≤ at
+    → entry order s p at ≡ answered (some f) → nameEntry order s i (record { 0 = f .offset }) ≡ answered f
+unfolding nameEntry
+pool-lead order s i p at f fits begins there =
+    let offset : f .offset ≡ at - p .«entry_pool» = entry-offset order s p at f there in
+    let (ahead, inside) = entries-forward order s p at f there in
+    let place : p .«entry_pool» + f .offset ≡ at = omega arith in
+    rw (fits, skip-inside (f .offset) s (p .«entry_pool») (p .end) (omega arith), place, there) refl
+
+-- so does that of an entry that a step shows
+shown-lead : {A : Type 0} (shown : Entry → A) (order : RunTimeEndian) (s : List ℕ) (i : NameIndex) (c : NameEntryIter) (e : A)
+    → stepShowing shown order s i c .answer ≡ answered (some e)
+    → (f : Entry) × (nameEntry order s i (record { 0 = f .offset }) ≡ answered f) × (shown f ≡ e)
+unfolding stepShowing
+shown-lead shown order s i c e gave =
     let (t, went, same) = kept-answer c _ e gave in
     let (p, fits, rest) = bind-answered (fitted s i) _ t went in
     let (u, above, rest₁) = then-answered (refuseIf (ltb (c .at) (p .«entry_pool»)) 14 0) _ t rest in
     let (v, below, rest₂) = then-answered (refuseIf (ltb (p .end) (c .at)) 14 0) _ t rest₁ in
-    let (f, read, this) = moved-answer p (seriesEntry order s p (c .at)) e (ap (λ t. t .answer) (same-answer rest₂) ∙ same) in
-    let there = series-entry order s p (c .at) f read in
-    let begins : p .«entry_pool» ≤ c .at = ltb-false _ _ (passed _ 14 0 u above) in
-    let offset : e .offset .0 ≡ c .at - p .«entry_pool» = ap (λ e. e .offset .0) (sym this) ∙ entry-offset order s p (c .at) f there in
-    let (ahead, inside) = entries-forward order s p (c .at) f there in
-    let place : p .«entry_pool» + e .offset .0 ≡ c .at = omega arith in
-    rw (fits, skip-inside (e .offset .0) s (p .«entry_pool») (p .end) (omega arith), place, there) (ap (λ x. answered x) this)
+    let (f, read, this) = moved-answer shown p (seriesEntry order s p (c .at)) e (ap (λ t. t .answer) (same-answer rest₂) ∙ same) in
+    let begins = ltb-false _ _ (passed _ 14 0 u above) in
+    (f, pool-lead order s i p (c .at) f fits begins (series-entry order s p (c .at) f read), this)
+
+pub handles-lead : HandlesLead
+unfolding entryStep nameEntryHanded
+handles-lead order s i c e gave =
+    let (f, there, this) = shown-lead handed order s i c e gave in
+    rw (sym this, there) refl
+
+pub handles-tell : HandlesTell
+unfolding wholeStep wholeEntry
+handles-tell order s i c t gave =
+    let (f, there, this) = shown-lead told order s i c t gave in
+    rw (sym this, there) refl
 
 -- the step of a cursor that fits
 step-fits : (order : RunTimeEndian) (s : List ℕ) (i : NameIndex) (at : ℕ) → length s ≤ longest → Fits s i → parts i .«entry_pool» ≤ at → at ≤ parts i .end
-    → entryStep order s i (cursorAt at) ≡ moved (parts i) (seriesEntry order s (parts i) at)
-unfolding entryStep
+    → entryStep order s i (cursorAt at) ≡ moved handed (parts i) (seriesEntry order s (parts i) at)
+unfolding entryStep stepShowing
 step-fits order s i at short fits above below = rw (fitted-fits s i short fits, le-ltb at (parts i .«entry_pool») above, le-ltb (parts i .end) at below)
 
 -- Demand 3: a cursor of a lookup stands for the entries from its place on
@@ -168,7 +234,7 @@ module _ (order : RunTimeEndian) (s : List ℕ) (i : NameIndex) (short : length 
   unfolding moved answersOf
   each c (above, below) = by-cases (seriesEntry order s (parts i) (c .at)) refl (step-fits order s i (c .at) short fits above below)
     where
-      by-cases : (o : Outcome (Option Entry)) → seriesEntry order s (parts i) (c .at) ≡ o → entryStep order s i c ≡ moved (parts i) o → Next (entryStep order s i) Inside left c
+      by-cases : (o : Outcome (Option Entry)) → seriesEntry order s (parts i) (c .at) ≡ o → entryStep order s i c ≡ moved handed (parts i) o → Next (entryStep order s i) Inside left c
       by-cases (answered none) read step = at-end (left-read c _ read) (ap (λ t. t .answer) step)
       by-cases (answered (some e)) read step =
           let (ahead, inside) = entries-forward order s (parts i) (c .at) e (series-entry order s (parts i) (c .at) e read) in

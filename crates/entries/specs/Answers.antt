@@ -11,6 +11,8 @@ use Rattle.entries.specs.declared.entry.PoolRead.{PoolRead}
 use Rattle.entries.specs.declared.series.NameEntryIter.{NameEntryIter}
 use Rattle.entries.specs.declared.series.EntriesRead.{EntriesRead}
 use Rattle.entries.specs.declared.series.NameEntryStep.{NameEntryStep}
+use Rattle.entries.specs.declared.series.WholeEntryStep.{WholeEntryStep}
+use Rattle.entries.specs.Entries.{Told}
 
 abbrev pub poolOutcome : PoolRead → Outcome (Option WholeEntry)
 poolOutcome (PoolRead.Entry w) = answered (some w)
@@ -33,3 +35,8 @@ abbrev pub entryStepOf : NameEntryStep → Step NameEntry NameEntryIter
 entryStepOf (NameEntryStep.End c) = record { answer = answered none; cursor = c }
 entryStepOf (NameEntryStep.Entry e c) = record { answer = answered (some e); cursor = c }
 entryStepOf (NameEntryStep.Refused e c) = record { answer = refusal e; cursor = c }
+
+abbrev pub wholeStepOf : WholeEntryStep → Step Told NameEntryIter
+wholeStepOf (WholeEntryStep.End c) = record { answer = answered none; cursor = c }
+wholeStepOf (WholeEntryStep.Entry offset w c) = record { answer = answered (some (record { offset = offset; entry = w })); cursor = c }
+wholeStepOf (WholeEntryStep.Refused e c) = record { answer = refusal e; cursor = c }

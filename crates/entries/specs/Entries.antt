@@ -64,6 +64,14 @@ nameEntryHanded order s i offset = do
 abbrev pub whole : Entry → WholeEntry
 whole e = record { «abbrev_code» = e .code; tag = e .tag; facts = facts (e .attributes); next = e .next }
 
+-- the same with its handle
+pub record Told : Type 0 where
+  pub offset : NameEntryOffset
+  pub entry : WholeEntry
+
+abbrev pub told : Entry → Told
+told e = record { offset = record { 0 = e .offset }; entry = whole e }
+
 abbrev pub wholeOf : Option Entry → Option WholeEntry
 wholeOf none = none
 wholeOf (some e) = some (whole e)

@@ -14,8 +14,8 @@ use Rattle.index.specs.declared.layout.Parts.{Parts}
 use Rattle.index.specs.Layout.{parts}
 use Rattle.entries.specs.declared.entry.NameEntry.{NameEntry}
 use Rattle.entries.specs.declared.series.NameEntryIter.{NameEntryIter}
-use Rattle.entries.specs.Entries.{Entry, entry, nameEntry, nameEntryHanded}
-use Rattle.entries.specs.Series.{seriesEntry, entriesFrom, series, entryStep}
+use Rattle.entries.specs.Entries.{Entry, entry, nameEntry, nameEntryHanded, Told, wholeEntry}
+use Rattle.entries.specs.Series.{seriesEntry, entriesFrom, series, entryStep, wholeStep}
 
 -- the bytes of an index's pool
 abbrev pub poolLength : NameIndex → ℕ
@@ -46,3 +46,9 @@ abbrev pub HandlesLead : Type 0
 HandlesLead =
     (order : RunTimeEndian) (s : List ℕ) (i : NameIndex) (c : NameEntryIter) (e : NameEntry) → entryStep order s i c .answer ≡ answered (some e)
     → nameEntryHanded order s i (e .offset) ≡ answered e
+
+-- and what a step tells of it is what is read again from its handle
+abbrev pub HandlesTell : Type 0
+HandlesTell =
+    (order : RunTimeEndian) (s : List ℕ) (i : NameIndex) (c : NameEntryIter) (t : Told) → wholeStep order s i c .answer ≡ answered (some t)
+    → wholeEntry order s i (t .offset) ≡ answered (t .entry)

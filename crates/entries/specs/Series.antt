@@ -16,7 +16,7 @@ use Rattle.index.specs.Layout.{parts, fitted}
 use Rattle.names.specs.Units.{nthWord}
 use Rattle.entries.specs.declared.entry.NameEntry.{NameEntry}
 use Rattle.entries.specs.declared.series.NameEntryIter.{NameEntryIter}
-use Rattle.entries.specs.Entries.{Entry, entry, handed}
+use Rattle.entries.specs.Entries.{Entry, entry, handed, Told, told}
 
 -- the place of a name's first entry: the entry offset that is stored for the name, counted from the pool's start
 unfoldable pub seriesStart : RunTimeEndian → List ℕ → NameIndex → NameTableIndex → Outcome ℕ
@@ -48,16 +48,25 @@ nameEntries order s i name = do
   place ← seriesStart order s i name
   answered (cursorAt place)
 
--- what a step answers: an entry, with the cursor past it; after an end or a refusal the cursor is at the pool's end
-unfoldable pub moved : Parts → Outcome (Option Entry) → Step NameEntry NameEntryIter
-moved p (answered (some e)) = record { answer = answered (some (handed e)); cursor = cursorAt (e .next) }
-moved p (answered none) = record { answer = answered none; cursor = cursorAt (p .end) }
-moved p (refused n v) = record { answer = refused n v; cursor = cursorAt (p .end) }
+-- what a step answers: an entry, of which `shown` is shown, with the cursor past it; after an end or a refusal the cursor is at the pool's
+-- end
+unfoldable pub moved : {A : Type 0} → (Entry → A) → Parts → Outcome (Option Entry) → Step A NameEntryIter
+moved shown p (answered (some e)) = record { answer = answered (some (shown e)); cursor = cursorAt (e .next) }
+moved shown p (answered none) = record { answer = answered none; cursor = cursorAt (p .end) }
+moved shown p (refused n v) = record { answer = refused n v; cursor = cursorAt (p .end) }
 
 -- the step; 13 and 14 of the index are tested first, then that the cursor lies in the pool or at its end
-unfoldable pub entryStep : RunTimeEndian → List ℕ → NameIndex → NameEntryIter → Step NameEntry NameEntryIter
-entryStep order s i c = keeping c (do
+unfoldable pub stepShowing : {A : Type 0} → (Entry → A) → RunTimeEndian → List ℕ → NameIndex → NameEntryIter → Step A NameEntryIter
+stepShowing shown order s i c = keeping c (do
   p ← fitted s i
   refuseIf (ltb (c .at) (p .«entry_pool»)) 14 0
   refuseIf (ltb (p .end) (c .at)) 14 0
-  answered (moved p (seriesEntry order s p (c .at))))
+  answered (moved shown p (seriesEntry order s p (c .at))))
+
+-- `NameEntryIter::next`: an entry is shown by its handle, its code and its tag
+unfoldable pub entryStep : RunTimeEndian → List ℕ → NameIndex → NameEntryIter → Step NameEntry NameEntryIter
+entryStep = stepShowing handed
+
+-- `NameEntryIter::next_whole`: it is shown with the first attribute of each name
+unfoldable pub wholeStep : RunTimeEndian → List ℕ → NameIndex → NameEntryIter → Step Told NameEntryIter
+wholeStep = stepShowing told

@@ -22,4 +22,5 @@ pub use facts::type_unit;
 pub use series::EntriesRead;
 pub use series::NameEntryIter;
 pub use series::NameEntryStep;
+pub use series::WholeEntryStep;
 pub use series::name_entries;

@@ -1,10 +1,11 @@
 // The series of a name: its entries, one after another (gimli's `NameIndex::name_entries` and `NameEntryIter`).
 use crate::entry::NameEntry;
 use crate::entry::PoolRead;
+use crate::entry::WholeEntry;
 use crate::entry::read_entry;
 ghost use mathlib.Core.Path.{_≡_};
-ghost use Rattle.entries.specs.Answers.{entriesOutcome, entryStepOf};
-ghost use Rattle.entries.specs.Series.{nameEntries, entryStep};
+ghost use Rattle.entries.specs.Answers.{entriesOutcome, wholeStepOf, entryStepOf};
+ghost use Rattle.entries.specs.Series.{nameEntries, wholeStep, entryStep};
 use index::NameIndex;
 use index::PartsRead;
 use index::fit;
@@ -32,6 +33,13 @@ pub enum EntriesRead {
 pub enum NameEntryStep {
     End(NameEntryIter),
     Entry(NameEntry, NameEntryIter),
+    Refused(Error, NameEntryIter),
+}
+
+// The same with all that one pass over the entry tells: its handle, and the entry read whole.
+pub enum WholeEntryStep {
+    End(NameEntryIter),
+    Entry(NameEntryOffset, WholeEntry, NameEntryIter),
     Refused(Error, NameEntryIter),
 }
 
@@ -67,36 +75,56 @@ pub fn name_entries(
 }
 
 impl NameEntryIter {
-    // The next entry. At the pool's end and at code 0 the series ends. After an end or a refusal the cursor is at the pool's end; 13
-    // and 14 leave it as it was.
-    pub fn next(self, order: RunTimeEndian, section: &[u8], index: NameIndex) -> NameEntryStep
-        ensures { λ r. ⌜ entryStepOf r ≡ entryStep order (now (section .entry)) index self ⌝ }
+    // The next entry, read whole. At the pool's end and at code 0 the series ends. After an end or a refusal the cursor is at the pool's
+    // end; 13 and 14 leave it as it was.
+    pub fn next_whole(
+        self,
+        order: RunTimeEndian,
+        section: &[u8],
+        index: NameIndex,
+    ) -> WholeEntryStep
+        ensures { λ r. ⌜ wholeStepOf r ≡ wholeStep order (now (section .entry)) index self ⌝ }
     {
         let at = self.at;
         let p = match fit(section, index) {
             PartsRead::Value(p) => p,
-            PartsRead::Refused(e) => return NameEntryStep::Refused(e, self),
+            PartsRead::Refused(e) => return WholeEntryStep::Refused(e, self),
         };
         if at < p.entry_pool {
-            return NameEntryStep::Refused(Error::DoesNotFit, self);
+            return WholeEntryStep::Refused(Error::DoesNotFit, self);
         }
         if p.end < at {
-            return NameEntryStep::Refused(Error::DoesNotFit, self);
+            return WholeEntryStep::Refused(Error::DoesNotFit, self);
         }
         if is_empty(section, at, p.end) {
-            return NameEntryStep::End(NameEntryIter { at: p.end });
+            return WholeEntryStep::End(NameEntryIter { at: p.end });
         }
         match read_entry(order, section, p, at) {
-            PoolRead::Entry(w) => NameEntryStep::Entry(
+            PoolRead::Entry(w) => WholeEntryStep::Entry(
+                NameEntryOffset(at - p.entry_pool),
+                w,
+                NameEntryIter { at: w.next },
+            ),
+            PoolRead::End => WholeEntryStep::End(NameEntryIter { at: p.end }),
+            PoolRead::Refused(e) => WholeEntryStep::Refused(e, NameEntryIter { at: p.end }),
+        }
+    }
+
+    // The next entry: its handle, its code and its tag.
+    pub fn next(self, order: RunTimeEndian, section: &[u8], index: NameIndex) -> NameEntryStep
+        ensures { λ r. ⌜ entryStepOf r ≡ entryStep order (now (section .entry)) index self ⌝ }
+    {
+        match self.next_whole(order, section, index) {
+            WholeEntryStep::End(after) => NameEntryStep::End(after),
+            WholeEntryStep::Entry(offset, w, after) => NameEntryStep::Entry(
                 NameEntry {
-                    offset: NameEntryOffset(at - p.entry_pool),
+                    offset: offset,
                     abbrev_code: w.abbrev_code,
                     tag: w.tag,
                 },
-                NameEntryIter { at: w.next },
+                after,
             ),
-            PoolRead::End => NameEntryStep::End(NameEntryIter { at: p.end }),
-            PoolRead::Refused(e) => NameEntryStep::Refused(e, NameEntryIter { at: p.end }),
+            WholeEntryStep::Refused(e, after) => NameEntryStep::Refused(e, after),
         }
     }
 }

@@ -4,12 +4,12 @@ use mathlib.Core.Path.{_≡_, refl, sym, ap, _∙_}
 use mathlib.Core.Bool.{Bool, true, false, cond}
 use mathlib.Core.Logic.{_↔_}
 use mathlib.Core.List.{List, [], _∷_}
-use mathlib.Core.Option.{Option, none}
+use mathlib.Core.Option.{Option, some, none}
 use native.Mathlib.Omega.{arith}
 use lib.ListN.{length, length-map}
 use lib.Dec.{ltb, leb, eqb}
 use borrow.Author.Tests.{ltb-true, ltb-false, lt-ltb, lt-leb, eqb-true, eqb-false}
-use Rattle.reader.specs.Outcome.{Outcome, answered, refused, _>>_}
+use Rattle.reader.specs.Outcome.{Outcome, answered, refused, _>>=_, _>>_}
 use Rattle.reader.specs.Errors.{longest}
 use Rattle.reader.specs.Parts.{partEnd, skipped}
 use Rattle.reader.specs.Numbers.{readNumber, numberAt}
@@ -31,7 +31,7 @@ use Rattle.hashes.specs.declared.hash.Found.{Found}
 use Rattle.hashes.specs.declared.hash.NameHashStep.{NameHashStep}
 use Rattle.reader.specs.Lists.{filterb}
 use Rattle.hashes.specs.Table.{nthOf, storedStart, storedHash, bucketOf, runFrom, examinedFrom, fromStart, run, storing, namesOfHash}
-use Rattle.hashes.specs.Lookups.{bucketCursor, hashCursor, findByBucket, findByHash, firstOr, nextInBucket, nextStoring, hashed, bucketMoved, hashMoved, bucketStep, hashStep}
+use Rattle.hashes.specs.Lookups.{bucketCursor, hashCursor, firstName, cursorBefore, findByBucket, findByHash, firstOr, nextInBucket, nextStoring, hashed, bucketMoved, hashMoved, bucketStep, hashStep}
 use Rattle.hashes.specs.Answers.{bucketStepOf, hashStepOf}
 use Rattle.hashes.specs.Demand3.{bucketAnswers, hashAnswers, bucketNames, hashNames, BucketLookups, HashLookups}
 use Rattle.hashes.specs.Sanity.{NoneAtZero, BucketsEnd, HashesEnd, StepsFollow}
@@ -46,7 +46,7 @@ module _ (order : RunTimeEndian) (s : List ℕ) (i : NameIndex) where
   pub find-fits : (bucket : ℕ) → length s ≤ longest → Fits s i → bucket < i .«bucket_count»
       → findByBucket order s i bucket
       ≡ cond (ltb (i .«name_count» + 1) (storedStart order s (parts i) bucket)) (refused 1 (parts i .«hash_table_data»)) (answered (started bucket (storedStart order s (parts i) bucket)))
-  unfolding findByBucket storedStart nthOf started
+  unfolding findByBucket firstName storedStart nthOf started
   find-fits bucket short fits below =
       rw (
         fitted-fits s i short fits,
@@ -68,12 +68,12 @@ module _ (order : RunTimeEndian) (s : List ℕ) (i : NameIndex) where
       room = omega (arith, ends, last, inside)
 
       by-start : (start : ℕ)
-          → cond (eqb start 0) (answered BucketIter.None) (skipped (4 * (start - 1)) s (parts i .«hash_table_data») (parts i .«name_table_data») >> answered (BucketIter.Some (bucketCursor bucket (start - 1))))
+          → (cond (eqb start 0) (answered none) (skipped (4 * (start - 1)) s (parts i .«hash_table_data») (parts i .«name_table_data») >> answered (some (start - 1))) >>= λ first. answered (cursorBefore bucket first))
           ≡ cond (ltb (i .«name_count» + 1) start) (refused 1 (parts i .«hash_table_data»)) (answered (started bucket start))
       by-start start = tested (eqb start 0) (ltb (i .«name_count» + 1) start) refl refl
         where
           tested : (t u : Bool) → eqb start 0 ≡ t → ltb (i .«name_count» + 1) start ≡ u
-              → cond t (answered BucketIter.None) (skipped (4 * (start - 1)) s (parts i .«hash_table_data») (parts i .«name_table_data») >> answered (BucketIter.Some (bucketCursor bucket (start - 1))))
+              → (cond t (answered none) (skipped (4 * (start - 1)) s (parts i .«hash_table_data») (parts i .«name_table_data») >> answered (some (start - 1))) >>= λ first. answered (cursorBefore bucket first))
               ≡ cond u (refused 1 (parts i .«hash_table_data»)) (answered (cond t BucketIter.None (BucketIter.Some (bucketCursor bucket (start - 1)))))
           tested true true e f = absurd (omega (arith, eqb-true start 0 e, ltb-true (i .«name_count» + 1) start f))
           tested true false e f = refl
@@ -83,7 +83,7 @@ module _ (order : RunTimeEndian) (s : List ℕ) (i : NameIndex) where
   -- what an answered lookup says
   pub find-answered : (bucket : ℕ) (found : BucketIter) → findByBucket order s i bucket ≡ answered found
       → (length s ≤ longest) × Fits s i × (bucket < i .«bucket_count») × (storedStart order s (parts i) bucket ≤ i .«name_count» + 1) × (found ≡ started bucket (storedStart order s (parts i) bucket))
-  unfolding findByBucket
+  unfolding findByBucket firstName
   find-answered bucket found given =
       let (short, fits, below) = bounds given in
       let (inside, same) = taken (ltb (i .«name_count» + 1) (storedStart order s (parts i) bucket)) refl (sym (find-fits bucket short fits below) ∙ given) in
@@ -92,8 +92,9 @@ module _ (order : RunTimeEndian) (s : List ℕ) (i : NameIndex) where
       bounds : findByBucket order s i bucket ≡ answered found → (length s ≤ longest) × Fits s i × (bucket < i .«bucket_count»)
       bounds e =
           let (p, fits, rest) = bind-answered (fitted s i) _ found e in
-          let (at, skip, rest₁) = bind-answered (skipped (4 * bucket) s (p .«bucket_data») (p .«hash_table_data»)) _ found rest in
-          let (start, read, rest₂) = bind-answered (readNumber 4 order s at (p .«hash_table_data»)) _ found rest₁ in
+          let (first, began, rest₀) = bind-answered (firstName order s (p .«bucket_data») (p .«hash_table_data») (p .«name_table_data») bucket) _ found rest in
+          let (at, skip, rest₁) = bind-answered (skipped (4 * bucket) s (p .«bucket_data») (p .«hash_table_data»)) _ first began in
+          let (start, read, rest₂) = bind-answered (readNumber 4 order s at (p .«hash_table_data»)) _ first rest₁ in
           let (short, inside, same) = fitted-answered s i p fits in
           let (here, place-is) = skip-answered (4 * bucket) s (p .«bucket_data») (p .«hash_table_data») at skip in
           let (room, value, next) = read-answered 4 order s at (p .«hash_table_data») start read in

@@ -1,5 +1,6 @@
 -- The outcome that each answer of the code stands for.
-use mathlib.Core.Option.{some, none}
+use Prim.Native.Nat.{ℕ}
+use mathlib.Core.Option.{Option, some, none}
 use Rattle.reader.specs.Outcome.{Outcome, answered}
 use Rattle.reader.specs.Errors.{refusal}
 use Rattle.reader.specs.Steps.{Step}
@@ -7,11 +8,17 @@ use Rattle.reader.specs.declared.common.NameTableIndex.{NameTableIndex}
 use Rattle.hashes.specs.declared.bucket.NameBucketIter.{NameBucketIter}
 use Rattle.hashes.specs.declared.bucket.BucketIter.{BucketIter}
 use Rattle.hashes.specs.declared.bucket.BucketName.{BucketName}
+use Rattle.hashes.specs.declared.bucket.FirstName.{FirstName}
 use Rattle.hashes.specs.declared.bucket.BucketRead.{BucketRead}
 use Rattle.hashes.specs.declared.bucket.NameBucketStep.{NameBucketStep}
 use Rattle.hashes.specs.declared.hash.NameHashIter.{NameHashIter}
 use Rattle.hashes.specs.declared.hash.HashRead.{HashRead}
 use Rattle.hashes.specs.declared.hash.NameHashStep.{NameHashStep}
+
+abbrev pub firstOutcome : FirstName → Outcome (Option ℕ)
+firstOutcome FirstName.None = answered none
+firstOutcome (FirstName.Some name) = answered (some name)
+firstOutcome (FirstName.Refused e) = refusal e
 
 abbrev pub bucketOutcome : BucketRead → Outcome BucketIter
 bucketOutcome (BucketRead.Value b) = answered b

@@ -2,7 +2,7 @@
 use Prim.Native.Nat.{ℕ, _+_, _-_, _*_}
 use mathlib.Core.Bool.{cond}
 use mathlib.Core.List.{List, [], _∷_}
-use mathlib.Core.Option.{some, none}
+use mathlib.Core.Option.{Option, some, none}
 use lib.ListN.{length}
 use lib.Dec.{leb, eqb}
 use Rattle.reader.specs.Outcome.{Outcome, answered, _>>=_, _>>_, refuseIf}
@@ -28,17 +28,28 @@ bucketCursor bucket name = record { «name_table_index» = record { 0 = name }; 
 abbrev pub hashCursor : ℕ → ℕ → ℕ → NameHashIter
 hashCursor bucket hash name = record { «bucket_iter» = BucketIter.Some (bucketCursor bucket name); hash = hash }
 
--- `find_by_bucket`: the bucket's start is skipped to and read; 0 is none; then the hashes before the first name are skipped
+-- a bucket's first name, in a table whose starts lie at `starts` and whose hashes lie from `hashes` up to `end`: the bucket's start is skipped to
+-- and read; 0 is none; then the hashes before the first name are skipped
+unfoldable pub firstName : RunTimeEndian → List ℕ → ℕ → ℕ → ℕ → ℕ → Outcome (Option ℕ)
+firstName order s starts hashes end bucket = do
+  place ← skipped (4 * bucket) s starts hashes
+  start ← readNumber 4 order s place hashes
+  cond (eqb (start .value) 0)
+      (answered none)
+      (do
+        skipped (4 * (start .value - 1)) s hashes end
+        answered (some (start .value - 1)))
+
+-- `find_by_bucket`: the cursor before it
+abbrev pub cursorBefore : ℕ → Option ℕ → BucketIter
+cursorBefore bucket none = BucketIter.None
+cursorBefore bucket (some name) = BucketIter.Some (bucketCursor bucket name)
+
 unfoldable pub findByBucket : RunTimeEndian → List ℕ → NameIndex → ℕ → Outcome BucketIter
 findByBucket order s i bucket = do
   p ← fitted s i
-  place ← skipped (4 * bucket) s (p .«bucket_data») (p .«hash_table_data»)
-  start ← readNumber 4 order s place (p .«hash_table_data»)
-  cond (eqb (start .value) 0)
-      (answered BucketIter.None)
-      (do
-        skipped (4 * (start .value - 1)) s (p .«hash_table_data») (p .«name_table_data»)
-        answered (BucketIter.Some (bucketCursor bucket (start .value - 1))))
+  first ← firstName order s (p .«bucket_data») (p .«hash_table_data») (p .«name_table_data») bucket
+  answered (cursorBefore bucket first)
 
 -- `find_by_hash`: the lookup of the hash's bucket
 unfoldable pub findByHash : RunTimeEndian → List ℕ → NameIndex → ℕ → Outcome NameHashIter

@@ -2,9 +2,9 @@
 ghost use mathlib.Core.Path.{_≡_};
 ghost use Prim.Native.Nat.{_+_, _*_, _≤_};
 ghost use lib.ListN.{length};
-ghost use Rattle.hashes.specs.Answers.{bucketOutcome, bucketStepOf};
+ghost use Rattle.hashes.specs.Answers.{firstOutcome, bucketOutcome, bucketStepOf};
 ghost use Rattle.hashes.specs.Table.{nthOf, bucketOf};
-ghost use Rattle.hashes.specs.Lookups.{findByBucket, bucketStep};
+ghost use Rattle.hashes.specs.Lookups.{firstName, findByBucket, bucketStep};
 use index::NameIndex;
 use index::PartsRead;
 use index::fit;
@@ -28,6 +28,13 @@ pub struct NameBucketIter {
 pub enum BucketIter {
     None,
     Some(NameBucketIter),
+}
+
+// The number of a bucket's first name, or none.
+pub enum FirstName {
+    None,
+    Some(u32),
+    Refused(Error),
 }
 
 pub enum BucketRead {
@@ -66,8 +73,37 @@ pub fn bucket_of(index: NameIndex, hash: u32) -> u32
     hash % index.bucket_count
 }
 
-// The cursor before the first name of a bucket; none where the start that is stored for the bucket is 0. A start one past the last name
-// is taken, as in gimli; a later one is refused.
+// The first name of a bucket, in a table whose starts lie at `starts`, and whose hashes lie from `hashes` up to `end`; none where the start
+// that is stored for the bucket is 0. A start one past the last name is taken, as in gimli; a later one is refused.
+pub fn first_name(
+    order: RunTimeEndian,
+    section: &[u8],
+    starts: usize,
+    hashes: usize,
+    end: usize,
+    bucket: u32,
+) -> FirstName
+    ensures { λ r. ⌜ firstOutcome r ≡ firstName order (now (section .entry)) starts hashes end bucket ⌝ }
+{
+    let place = match skip(4 * (bucket as usize), section, starts, hashes) {
+        Skipped::To(next) => next,
+        Skipped::Refused(e) => return FirstName::Refused(e),
+    };
+    let start = match read_u32(order, section, place, hashes) {
+        U32Read::Value(r) => r,
+        U32Read::Refused(e) => return FirstName::Refused(e),
+    };
+    if start.value == 0 {
+        return FirstName::None;
+    }
+    let first = start.value - 1;
+    match skip(4 * (first as usize), section, hashes, end) {
+        Skipped::To(_) => FirstName::Some(first),
+        Skipped::Refused(e) => FirstName::Refused(e),
+    }
+}
+
+// The cursor before the first name of a bucket, or none.
 pub fn find_by_bucket(
     order: RunTimeEndian,
     section: &[u8],
@@ -80,25 +116,20 @@ pub fn find_by_bucket(
         PartsRead::Value(p) => p,
         PartsRead::Refused(e) => return BucketRead::Refused(e),
     };
-    let end = p.hash_table_data;
-    let place = match skip(4 * (bucket as usize), section, p.bucket_data, end) {
-        Skipped::To(next) => next,
-        Skipped::Refused(e) => return BucketRead::Refused(e),
-    };
-    let start = match read_u32(order, section, place, end) {
-        U32Read::Value(r) => r,
-        U32Read::Refused(e) => return BucketRead::Refused(e),
-    };
-    if start.value == 0 {
-        return BucketRead::Value(BucketIter::None);
-    }
-    let first = start.value - 1;
-    match skip(4 * (first as usize), section, end, p.name_table_data) {
-        Skipped::To(_) => BucketRead::Value(BucketIter::Some(NameBucketIter {
+    match first_name(
+        order,
+        section,
+        p.bucket_data,
+        p.hash_table_data,
+        p.name_table_data,
+        bucket,
+    ) {
+        FirstName::None => BucketRead::Value(BucketIter::None),
+        FirstName::Some(first) => BucketRead::Value(BucketIter::Some(NameBucketIter {
             name_table_index: NameTableIndex(first),
             bucket_index: bucket,
         })),
-        Skipped::Refused(e) => BucketRead::Refused(e),
+        FirstName::Refused(e) => BucketRead::Refused(e),
     }
 }
 

@@ -1,9 +1,9 @@
 // The names that store a hash, one after another (gimli's `NameIndex::find_by_hash` and `NameHashIter`).
 use crate::bucket::BucketIter;
-use crate::bucket::BucketRead;
+use crate::bucket::FirstName;
 use crate::bucket::NameBucketIter;
 use crate::bucket::bucket_of;
-use crate::bucket::find_by_bucket;
+use crate::bucket::first_name;
 use crate::bucket::nth_u32;
 ghost use mathlib.Core.Path.{_≡_};
 ghost use Prim.Native.Nat.{_+_, _*_, _≤_};
@@ -47,17 +47,30 @@ pub enum Found {
 pub fn find_by_hash(order: RunTimeEndian, section: &[u8], index: NameIndex, hash: u32) -> HashRead
     ensures { λ r. ⌜ hashOutcome r ≡ findByHash order (now (section .entry)) index hash ⌝ }
 {
-    match find_by_bucket(order, section, index, bucket_of(index, hash)) {
-        BucketRead::Value(bucket_iter) => HashRead::Value(NameHashIter {
-            bucket_iter: bucket_iter,
+    let bucket = bucket_of(index, hash);
+    let p = match fit(section, index) {
+        PartsRead::Value(p) => p,
+        PartsRead::Refused(e) => return HashRead::Refused(e),
+    };
+    match first_name(
+        order,
+        section,
+        p.bucket_data,
+        p.hash_table_data,
+        p.name_table_data,
+        bucket,
+    ) {
+        FirstName::None => HashRead::Value(NameHashIter {
+            bucket_iter: BucketIter::None,
             hash: hash,
         }),
-        BucketRead::Refused(e) => HashRead::Refused(e),
+        FirstName::Some(first) => HashRead::Value(cursor_at(bucket, hash, first)),
+        FirstName::Refused(e) => HashRead::Refused(e),
     }
 }
 
-// The first name from a number on that stores the hash, passing over the bucket's names with other hashes.
-fn pass_over(
+// The first name from a number on that stores the hash, passing over the bucket's names with other hashes. `table` is where the hashes lie.
+pub fn pass_over(
     order: RunTimeEndian,
     section: &[u8],
     index: NameIndex,

@@ -20,8 +20,9 @@ use Rattle.index.specs.Layout.{parts, fitted}
 use Rattle.index.proofs.LayoutLaws.{fitted-answered}
 use Rattle.hashes.specs.declared.bucket.BucketIter.{BucketIter}
 use Rattle.hashes.specs.declared.hash.NameHashIter.{NameHashIter}
-use Rattle.hashes.specs.Table.{storedHash, storedStart, bucketOf, namesFrom, runFrom, examinedFrom, fromStart, run, storing, namesOfHash}
-use Rattle.hashes.specs.Lookups.{bucketCursor, hashCursor, findByHash, firstOr, nextStoring, hashMoved, hashStep}
+use Rattle.hashes.specs.declared.hash.Found.{Found}
+use Rattle.hashes.specs.Table.{nthOf, storedHash, storedStart, bucketOf, namesFrom, runFrom, examinedFrom, fromStart, run, storing, namesOfHash}
+use Rattle.hashes.specs.Lookups.{bucketCursor, firstName, cursorBefore, findByBucket, findByHash, firstOr, nextStoring}
 use Rattle.hashes.proofs.TableLaws.{bucket-below, names-step, storing-step, storing-rest, of-run}
 use Rattle.hashes.proofs.LookupLaws.{started, find-answered, hash-answered}
 use Rattle.index_query.specs.Candidates.{candidates, candidatesFrom}
@@ -55,6 +56,27 @@ module _ (order : RunTimeEndian) (s : List ℕ) (i : NameIndex) (hash : ℕ) whe
       by-start held true e = rw e
       by-start held false e = rw (e, ne-eqb (i .«bucket_count») 0 buckets)
 
+  -- the first name of its bucket stands for all names of the hash, and none for no names
+  abbrev pub firstNames : Option ℕ → List ℕ
+  firstNames none = []
+  firstNames (some name) = candidatesFrom order s i hash name
+
+  pub names-first : (p : Parts) (first : Option ℕ) → answered p ≡ fitted s i → (i .«bucket_count» ≡ 0 → ⊥)
+      → firstName order s (p .«bucket_data») (p .«hash_table_data») (p .«name_table_data») (bucketOf i hash) ≡ answered first
+      → namesOfHash order s i hash ≡ firstNames first
+  unfolding findByHash findByBucket
+  names-first p first fits buckets began = names-held _ buckets (found first began) ∙ same first
+    where
+      cursor : Option ℕ → NameHashIter
+      cursor o = record { «bucket_iter» = cursorBefore (bucketOf i hash) o; hash = hash }
+
+      found : (o : Option ℕ) → firstName order s (p .«bucket_data») (p .«hash_table_data») (p .«name_table_data») (bucketOf i hash) ≡ answered o → findByHash order s i hash ≡ answered (cursor o)
+      found o e = rw (sym fits, e)
+
+      same : (o : Option ℕ) → heldNames (cursorBefore (bucketOf i hash) o) ≡ firstNames o
+      same none = refl
+      same (some name) = refl
+
   -- from N on there are none
   pub none-past : candidatesFrom order s i hash (i .«name_count») ≡ []
   unfolding candidatesFrom
@@ -73,46 +95,30 @@ module _ (order : RunTimeEndian) (s : List ℕ) (i : NameIndex) (hash : ℕ) whe
   unfolding candidatesFrom
   all-names none-there = rw (eq-eqb (i .«bucket_count») 0 none-there)
 
-  -- with one, a step of the hash's cursor gives the next
-  abbrev pub stepNames : Outcome (Option NameTableIndex) → Outcome (List ℕ)
-  stepNames (answered none) = answered []
-  stepNames (answered (some name)) = answered (name .0 ∷ candidatesFrom order s i hash (name .0 + 1))
-  stepNames (refused n v) = refused n v
+  -- with one, the next is the next name of the bucket that stores the hash
+  abbrev pub foundNames : Found → Outcome (List ℕ)
+  foundNames (Found.Name name next) = answered (name ∷ candidatesFrom order s i hash next)
+  foundNames (Found.End next) = answered []
 
-  module _ (p : Parts) (given : answered p ≡ fitted s i) (buckets : i .«bucket_count» ≡ 0 → ⊥) (from : ℕ) where
-    -- the step of a cursor that fits
-    step-found : hashStep order s i (hashCursor (bucketOf i hash) hash from) ≡ hashMoved (bucketOf i hash) hash (nextStoring i hashOf (bucketOf i hash) hash from)
-    unfolding hashStep
-    step-found =
-        let (short, fits, same) = fitted-answered s i p (sym given) in
-        let below = bucket-below i hash (has-buckets buckets) in
-        rw (sym given, same, lt-leb (i .«bucket_count») (bucketOf i hash) below)
-
+  module _ (from : ℕ) (buckets : i .«bucket_count» ≡ 0 → ⊥) where
     abbrev stored : List ℕ
     stored = storing (storedHash order s (parts i)) hash (runFrom i (storedHash order s (parts i)) (bucketOf i hash) from)
 
-    pub next-stored : answered (candidatesFrom order s i hash from) ≡ stepNames (hashStep order s i (hashCursor (bucketOf i hash) hash from) .answer)
+    first-stored : answered (candidatesFrom order s i hash from) ≡ foundNames (nextStoring i hashOf (bucketOf i hash) hash from)
     unfolding nextStoring firstOr candidatesFrom
-    next-stored = rw (step-found, ne-eqb (i .«bucket_count») 0 buckets) (by-names stored refl)
+    first-stored = rw (ne-eqb (i .«bucket_count») 0 buckets) (by-names stored refl)
       where
         by-names : (names : List ℕ) → stored ≡ names
-            → answered stored ≡ stepNames (hashMoved (bucketOf i hash) hash (firstOr names (from + length (examinedFrom i hashOf (bucketOf i hash) from))) .answer)
+            → answered stored ≡ foundNames (firstOr names (from + length (examinedFrom i hashOf (bucketOf i hash) from)))
         by-names [] e = ap (λ l. answered l) e
         by-names (first ∷ rest) e = rw (e, ne-eqb (i .«bucket_count») 0 buckets) (ap (λ l. answered (first ∷ l)) (sym (storing-rest i hashOf (bucketOf i hash) hash from first rest e)))
 
-    -- and that is a name of the index
-    pub next-below : (name : NameTableIndex) → hashStep order s i (hashCursor (bucketOf i hash) hash from) .answer ≡ answered (some name) → name .0 < i .«name_count»
-    unfolding nextStoring firstOr storing memberb
-    next-below name gave = by-names stored refl (ap (λ t. t .answer) (sym step-found) ∙ gave)
-      where
-        by-names : (names : List ℕ) → stored ≡ names
-            → hashMoved (bucketOf i hash) hash (firstOr names (from + length (examinedFrom i hashOf (bucketOf i hash) from))) .answer ≡ answered (some name) → name .0 < i .«name_count»
-        by-names [] e same = absurd (Option·none-ne-some _ (same-answer same))
-        by-names (first ∷ rest) e same =
-            let is : first ≡ name .0 = ap (λ n. n .0) (Option·some-injective _ _ (same-answer same)) in
-            let there : memberb first stored ≡ true = rw (e, eq-eqb first first refl) in
-            let (above, below, all) = of-run i hashOf (bucketOf i hash) first from (member-filter (λ n. eqb (hashOf n) hash) first (runFrom i hashOf (bucketOf i hash) from) there) in
-            omega arith
+    pub next-stored : (p : Parts) → answered p ≡ fitted s i
+        → answered (candidatesFrom order s i hash from) ≡ foundNames (nextStoring i (nthOf order s (p .«hash_table_data»)) (bucketOf i hash) hash from)
+    unfolding storedHash
+    next-stored p given =
+        let (short, fits, same) = fitted-answered s i p (sym given) in
+        rw same first-stored
 
   -- there are no more candidates than names
   pub candidates-length : (from : ℕ) → length (candidatesFrom order s i hash from) ≤ i .«name_count»

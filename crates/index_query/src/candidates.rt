@@ -3,13 +3,11 @@
 ghost use mathlib.Core.Path.{_≡_};
 ghost use Rattle.index_query.specs.Candidates.{candidates, candidatesAt};
 ghost use Rattle.index_query.specs.Answers.{firstLeft, candidateLeft};
-use hashes::BucketIter;
-use hashes::HashRead;
-use hashes::NameBucketIter;
-use hashes::NameHashIter;
-use hashes::NameHashStep;
+use hashes::FirstName;
+use hashes::Found;
 use hashes::bucket_of;
-use hashes::find_by_hash;
+use hashes::first_name;
+use hashes::pass_over;
 use index::NameIndex;
 use index::PartsRead;
 use index::fit;
@@ -39,24 +37,24 @@ pub fn first_candidate(
 ) -> FirstCandidate
     ensures { λ r. ⌜ firstLeft order (now (section .entry)) index hash r ≡ candidates order (now (section .entry)) index hash ⌝ }
 {
-    match fit(section, index) {
-        PartsRead::Value(_) => (),
+    let p = match fit(section, index) {
+        PartsRead::Value(p) => p,
         PartsRead::Refused(e) => return FirstCandidate::Refused(e),
-    }
+    };
     if index.bucket_count == 0 {
         return FirstCandidate::From(0);
     }
-    let found = match find_by_hash(order, section, index, hash) {
-        HashRead::Value(c) => c,
-        HashRead::Refused(e) => return FirstCandidate::Refused(e),
-    };
-    let held = found.bucket_iter;
-    match held {
-        BucketIter::Some(b) => {
-            let first = b.name_table_index;
-            FirstCandidate::From(first.0)
-        }
-        BucketIter::None => FirstCandidate::From(index.name_count),
+    match first_name(
+        order,
+        section,
+        p.bucket_data,
+        p.hash_table_data,
+        p.name_table_data,
+        bucket_of(index, hash),
+    ) {
+        FirstName::None => FirstCandidate::From(index.name_count),
+        FirstName::Some(first) => FirstCandidate::From(first),
+        FirstName::Refused(e) => FirstCandidate::Refused(e),
     }
 }
 
@@ -70,26 +68,26 @@ pub fn next_candidate(
 ) -> Candidate
     ensures { λ r. ⌜ candidateLeft order (now (section .entry)) index hash r ≡ candidatesAt order (now (section .entry)) index hash from ⌝ }
 {
-    match fit(section, index) {
-        PartsRead::Value(_) => (),
+    let p = match fit(section, index) {
+        PartsRead::Value(p) => p,
         PartsRead::Refused(e) => return Candidate::Refused(e),
-    }
+    };
     if index.bucket_count == 0 {
         if index.name_count <= from {
             return Candidate::End;
         }
         return Candidate::Name(NameTableIndex(from), from + 1);
     }
-    let cursor = NameHashIter {
-        bucket_iter: BucketIter::Some(NameBucketIter {
-            name_table_index: NameTableIndex(from),
-            bucket_index: bucket_of(index, hash),
-        }),
-        hash: hash,
-    };
-    match cursor.next(order, section, index) {
-        NameHashStep::Name(name, _) => Candidate::Name(name, name.0 + 1),
-        NameHashStep::End(_) => Candidate::End,
-        NameHashStep::Refused(e, _) => Candidate::Refused(e),
+    match pass_over(
+        order,
+        section,
+        index,
+        p.hash_table_data,
+        bucket_of(index, hash),
+        hash,
+        from,
+    ) {
+        Found::Name(name, next) => Candidate::Name(NameTableIndex(name), next),
+        Found::End(_) => Candidate::End,
     }
 }

@@ -1,5 +1,6 @@
 -- The laws that look at the limits of LEB128 numbers, document 01's ten and three bytes. Callers of the readers cite `unsigned-below`,
--- `u16-below`, `unsigned-back` and `u16-back`, which do not say how many bytes a number may have; the rest serves the readers' proofs.
+-- `u16-below`, `unsigned-back`, `u16-back`, `unsigned-one` and `u16-one`, which do not say how many bytes a number may have; the rest serves
+-- the readers' proofs.
 use Prim.Native.Nat.{ℕ, zero, suc, _+_, _*_, _-_, _^_, _%_, _/_, _≤_, _<_}
 use mathlib.Core.Path.{_≡_, refl, ap, _∙_}
 use mathlib.Core.List.{List, [], _∷_, _++_}
@@ -157,6 +158,18 @@ unsigned-two s at end = two-bytes unsignedLimit s at end (omega arith)
 
 pub u16-two : (s : List ℕ) (at end : ℕ) → leb128 u16Limit s at end ≡ twoBytes u16Limit s at end
 u16-two s at end = two-bytes u16Limit s at end (omega arith)
+
+-- a byte below 128 is a number
+one-byte-number : (l : Limit) (s : List ℕ) (at end : ℕ) (a : Read) → leb128 l s at end ≡ twoBytes l s at end → readByte s at end ≡ answered a → a .value < 128
+    → leb128 l s at end ≡ answered a
+unfolding twoBytes
+one-byte-number l s at end a two read small = two ∙ rw (read, lt-ltb (a .value) 128 small)
+
+pub unsigned-one : (s : List ℕ) (at end : ℕ) (a : Read) → readByte s at end ≡ answered a → a .value < 128 → leb128 unsignedLimit s at end ≡ answered a
+unsigned-one s at end a = one-byte-number unsignedLimit s at end a (unsigned-two s at end)
+
+pub u16-one : (s : List ℕ) (at end : ℕ) (a : Read) → readByte s at end ≡ answered a → a .value < 128 → leb128 u16Limit s at end ≡ answered a
+u16-one s at end a = one-byte-number u16Limit s at end a (u16-two s at end)
 
 -- the third byte of a number of 16 bits
 pub u16-third : (s : List ℕ) (at end : ℕ) → leb128From u16Limit 2 s at end ≡ (do

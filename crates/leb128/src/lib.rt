@@ -54,9 +54,8 @@ pub mod read {
         })
     }
 
-    // An unsigned number of 64 bits. Nearly every number has one byte or two: these are read apart, and the loop stays out of
-    // the callers' code.
-    pub fn unsigned(s: &[u8], at: usize, end: usize) -> U64Read
+    // The same with two bytes read apart: few numbers have more.
+    fn long_unsigned(s: &[u8], at: usize, end: usize) -> U64Read
         ensures { λ r. ⌜ u64Outcome r ≡ leb128 unsignedLimit (now (s .entry)) at end ⌝ }
     {
         let a = match read_u8(s, at, end) {
@@ -84,8 +83,26 @@ pub mod read {
         bytewise(s, at, end)
     }
 
+    // An unsigned number of 64 bits. Nearly every number has one byte: it is read here, in a few steps that callers take in; all else is
+    // read apart, and a missing byte too, so that no other step stands in the way.
+    pub fn unsigned(s: &[u8], at: usize, end: usize) -> U64Read
+        ensures { λ r. ⌜ u64Outcome r ≡ leb128 unsignedLimit (now (s .entry)) at end ⌝ }
+    {
+        let first = match read_u8(s, at, end) {
+            U8Read::Value(r) => r,
+            U8Read::Refused(_) => return long_unsigned(s, at, end),
+        };
+        if first.value < 128 {
+            return U64Read::Value(Read64 {
+                value: first.value as u64,
+                next: first.next,
+            });
+        }
+        long_unsigned(s, at, end)
+    }
+
     // An unsigned number of 16 bits, which has at most three bytes.
-    pub fn u16(s: &[u8], at: usize, end: usize) -> U16Read
+    fn long_u16(s: &[u8], at: usize, end: usize) -> U16Read
         ensures { λ r. ⌜ u16Outcome r ≡ leb128 u16Limit (now (s .entry)) at end ⌝ }
     {
         let a = match read_u8(s, at, end) {
@@ -122,5 +139,22 @@ pub mod read {
             value: (first % 128) as u16 + 128 * ((second % 128) as u16 + 128 * (third as u16)),
             next: c.next,
         })
+    }
+
+    // The same: one byte here, all else apart.
+    pub fn u16(s: &[u8], at: usize, end: usize) -> U16Read
+        ensures { λ r. ⌜ u16Outcome r ≡ leb128 u16Limit (now (s .entry)) at end ⌝ }
+    {
+        let first = match read_u8(s, at, end) {
+            U8Read::Value(r) => r,
+            U8Read::Refused(_) => return long_u16(s, at, end),
+        };
+        if first.value < 128 {
+            return U16Read::Value(Read16 {
+                value: first.value as u16,
+                next: first.next,
+            });
+        }
+        long_u16(s, at, end)
     }
 }

@@ -24,11 +24,11 @@ use Rattle.forms.specs.Forms.{asFlag, asUnsigned, asOffset, formValue}
 use Rattle.attributes.specs.Attributes.{values, kept, noAttribute, first}
 use Rattle.attributes.specs.Meaning.{dieOffset, dieOffsetIn, parentOf, parentIn}
 use Rattle.entries.specs.Entries.{entry, nameEntry}
-use Rattle.entries.specs.Series.{seriesStart, seriesEntry, entriesFrom, series, nameEntries, moved, entryStep}
+use Rattle.entries.specs.Series.{seriesStart, seriesEntry, entriesFrom, series, nameEntries, moved, stepShowing, entryStep}
 use Rattle.entries.specs.Facts.{entryDieOffset, entryParent}
 use Rattle.reader.specs.Lists.{numbersFrom, filterb, takeWhile, memberb}
 use Rattle.hashes.specs.Table.{nthOf, storedStart, storedHash, bucketOf, namesFrom, runFrom, examinedFrom, fromStart, run, examined, storing}
-use Rattle.hashes.specs.Lookups.{findByBucket, findByHash, firstOr, nextInBucket, nextStoring, bucketStep, hashStep}
+use Rattle.hashes.specs.Lookups.{findByBucket, firstName, findByHash, firstOr, nextInBucket, nextStoring, bucketStep, hashStep}
 use Rattle.headers.specs.Headers.{headerAt, headersFrom}
 use Rattle.tables.specs.Check.{startAbove, anyAbove, isMissed, missedNames, verdict, tableCheck}
 use Rattle.listing.specs.Names.{nameHash, entryCount, nameLine}
@@ -77,7 +77,7 @@ unfolding caseA indexA series seriesStart seriesEntry entriesFrom answersOf nthW
 series-of-a = refl
 
 pub steps-of-a : StepsOfA
-unfolding caseA indexA entryStep moved seriesEntry entry values kept noAttribute first formValue asFlag asUnsigned asOffset readByte find table listing declaration withAttributes head attributes attributesIn pair leb128 numberOfBytes numberBytes someBeyond beyond complete base128 fitted parts place placesFrom sizes wordBytes hashBytes longest readNumber skipped spelled digits
+unfolding caseA indexA entryStep stepShowing moved seriesEntry entry values kept noAttribute first formValue asFlag asUnsigned asOffset readByte find table listing declaration withAttributes head attributes attributesIn pair leb128 numberOfBytes numberBytes someBeyond beyond complete base128 fitted parts place placesFrom sizes wordBytes hashBytes longest readNumber skipped spelled digits
 steps-of-a = step-then refl (step-then refl (step-then refl no-steps))
 
 pub facts-of-a : FactsOfA
@@ -85,7 +85,7 @@ unfolding caseA indexA entryDieOffset entryParent dieOffset dieOffsetIn parentOf
 facts-of-a = (refl, refl)
 
 pub buckets-of-a : BucketsOfA
-unfolding caseA indexA findByBucket fitted parts place placesFrom sizes wordBytes hashBytes longest readNumber skipped spelled digits
+unfolding caseA indexA findByBucket firstName fitted parts place placesFrom sizes wordBytes hashBytes longest readNumber skipped spelled digits
 buckets-of-a = refl
 
 pub runs-of-a : RunsOfA
@@ -97,7 +97,7 @@ unfolding caseA indexA bucketStep nextInBucket firstOr nthOf storedStart storedH
 bucket-steps-of-a = step-then refl (step-then refl (step-then refl (step-then refl no-steps)))
 
 pub hash-of-a : HashOfA
-unfolding caseA indexA findByHash findByBucket bucketOf fitted parts place placesFrom sizes wordBytes hashBytes longest readNumber skipped spelled digits
+unfolding caseA indexA findByHash findByBucket firstName bucketOf fitted parts place placesFrom sizes wordBytes hashBytes longest readNumber skipped spelled digits
 hash-of-a = refl
 
 pub hash-steps-of-a : HashStepsOfA

@@ -24,7 +24,7 @@ use Rattle.attributes.specs.Meaning.{unitNumberIn, unitNumber, numberedUnit, nu
 use Rattle.entries.specs.Entries.{entry}
 use Rattle.entries.specs.Series.{seriesStart, seriesEntry, entriesFrom, series, nameEntries}
 use Rattle.hashes.specs.Table.{nthOf, storedStart, storedHash, bucketOf, namesFrom, runFrom, fromStart, run, storing, namesOfHash}
-use Rattle.hashes.specs.Lookups.{bucketCursor, hashCursor, findByBucket, findByHash}
+use Rattle.hashes.specs.Lookups.{bucketCursor, hashCursor, findByBucket, firstName, findByHash}
 use Rattle.tables.specs.Check.{checkOutcome, startAbove, anyAbove, isMissed, missedNames, verdict, tableCheck}
 use Rattle.records.specs.Units.{compileShown, typeShown, namedUnit, entryUnit}
 use Rattle.records.specs.Records.{shown, entryRecord}
@@ -49,7 +49,7 @@ use Rattle.p_cases.specs.CaseA.{caseA, stringsA, headerA, indexA, stepsO
 use Rattle.p_cases.specs.Queries.{LookupsInA, AllListedInA, queryOfA, foundInA, AllOpenA, CompleteA, FoundA, twoIndexes, secondHeader, secondIndex, openedTwo, queryOfTwo, foundInTwo, AllOpenTwo, CompleteTwo, ExpectedTwo, openA, old, de}
 
 first-bucket : bucketOutcome (BucketRead.Value (BucketIter.Some (bucketCursor 0 0))) ≡ findByBucket RunTimeEndian.Little caseA indexA 0
-unfolding caseA indexA findByBucket fitted parts place placesFrom sizes wordBytes hashBytes longest readNumber skipped spelled digits
+unfolding caseA indexA findByBucket firstName fitted parts place placesFrom sizes wordBytes hashBytes longest readNumber skipped spelled digits
 first-bucket = refl
 
 first-series : entriesOutcome (EntriesRead.Value (record { at = 91 })) ≡ nameEntries RunTimeEndian.Little caseA indexA (record { 0 = 0 })
@@ -72,26 +72,26 @@ pub all-listed-in-a : AllListedInA
 all-listed-in-a = demand3 .completeness RunTimeEndian.Little caseA indexA (lent-a .0) (lent-a .1) .0 says-complete
 
 pub query-of-a : queryOfA ≡ foundInA
-unfolding caseA stringsA headerA indexA sectionQuery queried written sectionRecords headersLeft headerRecords headersFrom headerAt header headerCut headerBody counts augmentation initialLength readNumber skipped cut spelled digits nameIndex indexOf cutParts passedOver parts place placesFrom sizes wordBytes hashBytes longest parsed ending table listing declaration withAttributes head attributes attributesIn pair leb128 numberOfBytes numberBytes someBeyond beyond complete base128 indexRecords candidates findByHash findByBucket namesOfHash run runFrom fromStart storing storedStart storedHash nthOf bucketOf namesFrom numbersFrom filterb takeWhile memberb numberAt matching nameMatches textIs sameBytes nameString nameStringOffset nthWord getStr zeroFrom beforeZero allSeries seriesRecords recordOfEntry shownBy followedBy itemsOf counted series seriesStart seriesEntry entriesFrom entry values kept noAttribute first facts formValue asFlag asUnsigned asOffset readByte find fitted entryRecord shown entryUnit namedUnit compileShown typeShown compileUnitOf typeUnitOf unitNumber unitNumberIn numberedUnit numberedTypeUnit compileUnit unitIn defaultCompileUnit dieOffset dieOffsetIn
+unfolding caseA stringsA headerA indexA sectionQuery queried written sectionRecords headersLeft headerRecords headersFrom headerAt header headerCut headerBody counts augmentation initialLength readNumber skipped cut spelled digits nameIndex indexOf cutParts passedOver parts place placesFrom sizes wordBytes hashBytes longest parsed ending table listing declaration withAttributes head attributes attributesIn pair leb128 numberOfBytes numberBytes someBeyond beyond complete base128 indexRecords candidates findByHash findByBucket firstName namesOfHash run runFrom fromStart storing storedStart storedHash nthOf bucketOf namesFrom numbersFrom filterb takeWhile memberb numberAt matching nameMatches textIs sameBytes nameString nameStringOffset nthWord getStr zeroFrom beforeZero allSeries seriesRecords recordOfEntry shownBy followedBy itemsOf counted series seriesStart seriesEntry entriesFrom entry values kept noAttribute first facts formValue asFlag asUnsigned asOffset readByte find fitted entryRecord shown entryUnit namedUnit compileShown typeShown compileUnitOf typeUnitOf unitNumber unitNumberIn numberedUnit numberedTypeUnit compileUnit unitIn defaultCompileUnit dieOffset dieOffsetIn
 query-of-a = refl
 
 pub all-open-a : AllOpenA
-unfolding caseA stringsA headerA indexA sectionQuery queried written sectionRecords headersLeft headerRecords headersFrom headerAt header headerCut headerBody counts augmentation initialLength readNumber skipped cut spelled digits nameIndex indexOf cutParts passedOver parts place placesFrom sizes wordBytes hashBytes longest parsed ending table listing declaration withAttributes head attributes attributesIn pair leb128 numberOfBytes numberBytes someBeyond beyond complete base128 indexRecords candidates findByHash findByBucket namesOfHash run runFrom fromStart storing storedStart storedHash nthOf bucketOf namesFrom numbersFrom filterb takeWhile memberb numberAt matching nameMatches textIs sameBytes nameString nameStringOffset nthWord getStr zeroFrom beforeZero allSeries seriesRecords recordOfEntry shownBy followedBy itemsOf counted series seriesStart seriesEntry entriesFrom entry values kept noAttribute first facts formValue asFlag asUnsigned asOffset readByte find fitted entryRecord shown entryUnit namedUnit compileShown typeShown compileUnitOf typeUnitOf unitNumber unitNumberIn numberedUnit numberedTypeUnit compileUnit unitIn defaultCompileUnit dieOffset dieOffsetIn headerStep afterHeader firstHeader hasEnd upToEnd
+unfolding caseA stringsA headerA indexA sectionQuery queried written sectionRecords headersLeft headerRecords headersFrom headerAt header headerCut headerBody counts augmentation initialLength readNumber skipped cut spelled digits nameIndex indexOf cutParts passedOver parts place placesFrom sizes wordBytes hashBytes longest parsed ending table listing declaration withAttributes head attributes attributesIn pair leb128 numberOfBytes numberBytes someBeyond beyond complete base128 indexRecords candidates findByHash findByBucket firstName namesOfHash run runFrom fromStart storing storedStart storedHash nthOf bucketOf namesFrom numbersFrom filterb takeWhile memberb numberAt matching nameMatches textIs sameBytes nameString nameStringOffset nthWord getStr zeroFrom beforeZero allSeries seriesRecords recordOfEntry shownBy followedBy itemsOf counted series seriesStart seriesEntry entriesFrom entry values kept noAttribute first facts formValue asFlag asUnsigned asOffset readByte find fitted entryRecord shown entryUnit namedUnit compileShown typeShown compileUnitOf typeUnitOf unitNumber unitNumberIn numberedUnit numberedTypeUnit compileUnit unitIn defaultCompileUnit dieOffset dieOffsetIn headerStep afterHeader firstHeader hasEnd upToEnd
 all-open-a = ((HeaderStep.Header headerA (record { at = 109 }) ∷ HeaderStep.End (record { at = 109 }) ∷ [], step-then refl (step-then refl no-steps), refl, refl), and-then refl of-none)
 
 pub complete-a : CompleteA
-unfolding caseA stringsA headerA indexA sectionQuery queried written sectionRecords headersLeft headerRecords headersFrom headerAt header headerCut headerBody counts augmentation initialLength readNumber skipped cut spelled digits nameIndex indexOf cutParts passedOver parts place placesFrom sizes wordBytes hashBytes longest parsed ending table listing declaration withAttributes head attributes attributesIn pair leb128 numberOfBytes numberBytes someBeyond beyond complete base128 indexRecords candidates findByHash findByBucket namesOfHash run runFrom fromStart storing storedStart storedHash nthOf bucketOf namesFrom numbersFrom filterb takeWhile memberb numberAt matching nameMatches textIs sameBytes nameString nameStringOffset nthWord getStr zeroFrom beforeZero allSeries seriesRecords recordOfEntry shownBy followedBy itemsOf counted series seriesStart seriesEntry entriesFrom entry values kept noAttribute first facts formValue asFlag asUnsigned asOffset readByte find fitted entryRecord shown entryUnit namedUnit compileShown typeShown compileUnitOf typeUnitOf unitNumber unitNumberIn numberedUnit numberedTypeUnit compileUnit unitIn defaultCompileUnit dieOffset dieOffsetIn startAbove anyAbove isMissed missedNames verdict tableCheck
+unfolding caseA stringsA headerA indexA sectionQuery queried written sectionRecords headersLeft headerRecords headersFrom headerAt header headerCut headerBody counts augmentation initialLength readNumber skipped cut spelled digits nameIndex indexOf cutParts passedOver parts place placesFrom sizes wordBytes hashBytes longest parsed ending table listing declaration withAttributes head attributes attributesIn pair leb128 numberOfBytes numberBytes someBeyond beyond complete base128 indexRecords candidates findByHash findByBucket firstName namesOfHash run runFrom fromStart storing storedStart storedHash nthOf bucketOf namesFrom numbersFrom filterb takeWhile memberb numberAt matching nameMatches textIs sameBytes nameString nameStringOffset nthWord getStr zeroFrom beforeZero allSeries seriesRecords recordOfEntry shownBy followedBy itemsOf counted series seriesStart seriesEntry entriesFrom entry values kept noAttribute first facts formValue asFlag asUnsigned asOffset readByte find fitted entryRecord shown entryUnit namedUnit compileShown typeShown compileUnitOf typeUnitOf unitNumber unitNumberIn numberedUnit numberedTypeUnit compileUnit unitIn defaultCompileUnit dieOffset dieOffsetIn startAbove anyAbove isMissed missedNames verdict tableCheck
 complete-a = and-then (inl refl) of-none
 
 pub found-a : FoundA
 found-a = demand3 .query _ caseA stringsA 7 de (old ∷ old ∷ []) _ 1 (openA ∷ []) all-open-a complete-a (sym query-of-a)
 
 pub query-of-two : queryOfTwo ≡ foundInTwo
-unfolding caseA stringsA headerA indexA sectionQuery queried written sectionRecords headersLeft headerRecords headersFrom headerAt header headerCut headerBody counts augmentation initialLength readNumber skipped cut spelled digits nameIndex indexOf cutParts passedOver parts place placesFrom sizes wordBytes hashBytes longest parsed ending table listing declaration withAttributes head attributes attributesIn pair leb128 numberOfBytes numberBytes someBeyond beyond complete base128 indexRecords candidates findByHash findByBucket namesOfHash run runFrom fromStart storing storedStart storedHash nthOf bucketOf namesFrom numbersFrom filterb takeWhile memberb numberAt matching nameMatches textIs sameBytes nameString nameStringOffset nthWord getStr zeroFrom beforeZero allSeries seriesRecords recordOfEntry shownBy followedBy itemsOf counted series seriesStart seriesEntry entriesFrom entry values kept noAttribute first facts formValue asFlag asUnsigned asOffset readByte find fitted entryRecord shown entryUnit namedUnit compileShown typeShown compileUnitOf typeUnitOf unitNumber unitNumberIn numberedUnit numberedTypeUnit compileUnit unitIn defaultCompileUnit dieOffset dieOffsetIn twoIndexes secondHeader secondIndex
+unfolding caseA stringsA headerA indexA sectionQuery queried written sectionRecords headersLeft headerRecords headersFrom headerAt header headerCut headerBody counts augmentation initialLength readNumber skipped cut spelled digits nameIndex indexOf cutParts passedOver parts place placesFrom sizes wordBytes hashBytes longest parsed ending table listing declaration withAttributes head attributes attributesIn pair leb128 numberOfBytes numberBytes someBeyond beyond complete base128 indexRecords candidates findByHash findByBucket firstName namesOfHash run runFrom fromStart storing storedStart storedHash nthOf bucketOf namesFrom numbersFrom filterb takeWhile memberb numberAt matching nameMatches textIs sameBytes nameString nameStringOffset nthWord getStr zeroFrom beforeZero allSeries seriesRecords recordOfEntry shownBy followedBy itemsOf counted series seriesStart seriesEntry entriesFrom entry values kept noAttribute first facts formValue asFlag asUnsigned asOffset readByte find fitted entryRecord shown entryUnit namedUnit compileShown typeShown compileUnitOf typeUnitOf unitNumber unitNumberIn numberedUnit numberedTypeUnit compileUnit unitIn defaultCompileUnit dieOffset dieOffsetIn twoIndexes secondHeader secondIndex
 query-of-two = refl
 
 pub all-open-two : AllOpenTwo
-unfolding caseA stringsA headerA indexA sectionQuery queried written sectionRecords headersLeft headerRecords headersFrom headerAt header headerCut headerBody counts augmentation initialLength readNumber skipped cut spelled digits nameIndex indexOf cutParts passedOver parts place placesFrom sizes wordBytes hashBytes longest parsed ending table listing declaration withAttributes head attributes attributesIn pair leb128 numberOfBytes numberBytes someBeyond beyond complete base128 indexRecords candidates findByHash findByBucket namesOfHash run runFrom fromStart storing storedStart storedHash nthOf bucketOf namesFrom numbersFrom filterb takeWhile memberb numberAt matching nameMatches textIs sameBytes nameString nameStringOffset nthWord getStr zeroFrom beforeZero allSeries seriesRecords recordOfEntry shownBy followedBy itemsOf counted series seriesStart seriesEntry entriesFrom entry values kept noAttribute first facts formValue asFlag asUnsigned asOffset readByte find fitted entryRecord shown entryUnit namedUnit compileShown typeShown compileUnitOf typeUnitOf unitNumber unitNumberIn numberedUnit numberedTypeUnit compileUnit unitIn defaultCompileUnit dieOffset dieOffsetIn twoIndexes secondHeader secondIndex headerStep afterHeader firstHeader hasEnd upToEnd
+unfolding caseA stringsA headerA indexA sectionQuery queried written sectionRecords headersLeft headerRecords headersFrom headerAt header headerCut headerBody counts augmentation initialLength readNumber skipped cut spelled digits nameIndex indexOf cutParts passedOver parts place placesFrom sizes wordBytes hashBytes longest parsed ending table listing declaration withAttributes head attributes attributesIn pair leb128 numberOfBytes numberBytes someBeyond beyond complete base128 indexRecords candidates findByHash findByBucket firstName namesOfHash run runFrom fromStart storing storedStart storedHash nthOf bucketOf namesFrom numbersFrom filterb takeWhile memberb numberAt matching nameMatches textIs sameBytes nameString nameStringOffset nthWord getStr zeroFrom beforeZero allSeries seriesRecords recordOfEntry shownBy followedBy itemsOf counted series seriesStart seriesEntry entriesFrom entry values kept noAttribute first facts formValue asFlag asUnsigned asOffset readByte find fitted entryRecord shown entryUnit namedUnit compileShown typeShown compileUnitOf typeUnitOf unitNumber unitNumberIn numberedUnit numberedTypeUnit compileUnit unitIn defaultCompileUnit dieOffset dieOffsetIn twoIndexes secondHeader secondIndex headerStep afterHeader firstHeader hasEnd upToEnd
 all-open-two = (
   (
     HeaderStep.Header headerA (record { at = 109 }) ∷ HeaderStep.Header secondHeader (record { at = 178 }) ∷ HeaderStep.End (record { at = 178 }) ∷ [],
@@ -103,9 +103,9 @@ all-open-two = (
 )
 
 pub complete-two : CompleteTwo
-unfolding caseA stringsA headerA indexA sectionQuery queried written sectionRecords headersLeft headerRecords headersFrom headerAt header headerCut headerBody counts augmentation initialLength readNumber skipped cut spelled digits nameIndex indexOf cutParts passedOver parts place placesFrom sizes wordBytes hashBytes longest parsed ending table listing declaration withAttributes head attributes attributesIn pair leb128 numberOfBytes numberBytes someBeyond beyond complete base128 indexRecords candidates findByHash findByBucket namesOfHash run runFrom fromStart storing storedStart storedHash nthOf bucketOf namesFrom numbersFrom filterb takeWhile memberb numberAt matching nameMatches textIs sameBytes nameString nameStringOffset nthWord getStr zeroFrom beforeZero allSeries seriesRecords recordOfEntry shownBy followedBy itemsOf counted series seriesStart seriesEntry entriesFrom entry values kept noAttribute first facts formValue asFlag asUnsigned asOffset readByte find fitted entryRecord shown entryUnit namedUnit compileShown typeShown compileUnitOf typeUnitOf unitNumber unitNumberIn numberedUnit numberedTypeUnit compileUnit unitIn defaultCompileUnit dieOffset dieOffsetIn twoIndexes secondHeader secondIndex startAbove anyAbove isMissed missedNames verdict tableCheck
+unfolding caseA stringsA headerA indexA sectionQuery queried written sectionRecords headersLeft headerRecords headersFrom headerAt header headerCut headerBody counts augmentation initialLength readNumber skipped cut spelled digits nameIndex indexOf cutParts passedOver parts place placesFrom sizes wordBytes hashBytes longest parsed ending table listing declaration withAttributes head attributes attributesIn pair leb128 numberOfBytes numberBytes someBeyond beyond complete base128 indexRecords candidates findByHash findByBucket firstName namesOfHash run runFrom fromStart storing storedStart storedHash nthOf bucketOf namesFrom numbersFrom filterb takeWhile memberb numberAt matching nameMatches textIs sameBytes nameString nameStringOffset nthWord getStr zeroFrom beforeZero allSeries seriesRecords recordOfEntry shownBy followedBy itemsOf counted series seriesStart seriesEntry entriesFrom entry values kept noAttribute first facts formValue asFlag asUnsigned asOffset readByte find fitted entryRecord shown entryUnit namedUnit compileShown typeShown compileUnitOf typeUnitOf unitNumber unitNumberIn numberedUnit numberedTypeUnit compileUnit unitIn defaultCompileUnit dieOffset dieOffsetIn twoIndexes secondHeader secondIndex startAbove anyAbove isMissed missedNames verdict tableCheck
 complete-two = and-then (inl refl) (and-then (inr refl) of-none)
 
 pub expected-two : ExpectedTwo
-unfolding caseA stringsA headerA indexA sectionQuery queried written sectionRecords headersLeft headerRecords headersFrom headerAt header headerCut headerBody counts augmentation initialLength readNumber skipped cut spelled digits nameIndex indexOf cutParts passedOver parts place placesFrom sizes wordBytes hashBytes longest parsed ending table listing declaration withAttributes head attributes attributesIn pair leb128 numberOfBytes numberBytes someBeyond beyond complete base128 indexRecords candidates findByHash findByBucket namesOfHash run runFrom fromStart storing storedStart storedHash nthOf bucketOf namesFrom numbersFrom filterb takeWhile memberb numberAt matching nameMatches textIs sameBytes nameString nameStringOffset nthWord getStr zeroFrom beforeZero allSeries seriesRecords recordOfEntry shownBy followedBy itemsOf counted series seriesStart seriesEntry entriesFrom entry values kept noAttribute first facts formValue asFlag asUnsigned asOffset readByte find fitted entryRecord shown entryUnit namedUnit compileShown typeShown compileUnitOf typeUnitOf unitNumber unitNumberIn numberedUnit numberedTypeUnit compileUnit unitIn defaultCompileUnit dieOffset dieOffsetIn twoIndexes secondHeader secondIndex expected recordsOfIndex recordsOfName matchingNames nameIsMatch hashMatches stringMatches flatMap
+unfolding caseA stringsA headerA indexA sectionQuery queried written sectionRecords headersLeft headerRecords headersFrom headerAt header headerCut headerBody counts augmentation initialLength readNumber skipped cut spelled digits nameIndex indexOf cutParts passedOver parts place placesFrom sizes wordBytes hashBytes longest parsed ending table listing declaration withAttributes head attributes attributesIn pair leb128 numberOfBytes numberBytes someBeyond beyond complete base128 indexRecords candidates findByHash findByBucket firstName namesOfHash run runFrom fromStart storing storedStart storedHash nthOf bucketOf namesFrom numbersFrom filterb takeWhile memberb numberAt matching nameMatches textIs sameBytes nameString nameStringOffset nthWord getStr zeroFrom beforeZero allSeries seriesRecords recordOfEntry shownBy followedBy itemsOf counted series seriesStart seriesEntry entriesFrom entry values kept noAttribute first facts formValue asFlag asUnsigned asOffset readByte find fitted entryRecord shown entryUnit namedUnit compileShown typeShown compileUnitOf typeUnitOf unitNumber unitNumberIn numberedUnit numberedTypeUnit compileUnit unitIn defaultCompileUnit dieOffset dieOffsetIn twoIndexes secondHeader secondIndex expected recordsOfIndex recordsOfName matchingNames nameIsMatch hashMatches stringMatches flatMap
 expected-two = refl

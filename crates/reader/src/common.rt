@@ -35,11 +35,13 @@ pub struct DebugStrOffset(pub usize);
 // A type signature, as it stands in the foreign type units of an index.
 pub struct DebugTypeSignature(pub u64);
 
-// An offset from the start of a unit.
+// An offset from the start of a unit. It stands in records, which callers in C lend.
+#[repr(C)]
 pub struct UnitOffset(pub usize);
 
 // An offset into the entry pool of an index.
 pub struct NameEntryOffset(pub usize);
 
-// The number of a name of an index, counted from 0.
+// The number of a name of an index, counted from 0. It stands in records, too.
+#[repr(C)]
 pub struct NameTableIndex(pub u32);

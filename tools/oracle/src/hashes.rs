@@ -79,7 +79,7 @@ fn names_of_hash(lent: &Lent, index: &NameIndex<Bytes>, hash: u32, out: &mut Ans
 
 /// The number of the name before which a cursor stands, or a dash where there is no bucket cursor. gimli does not give it: it is in the
 /// text for debugging.
-fn first_name(text: &str) -> String {
+pub fn first_name(text: &str) -> String {
     match text.split_once(" name_table_index: NameTableIndex(") {
         Some((_, number)) => number.split_once(')').unwrap().0.to_string(),
         None => "-".to_string(),
@@ -125,7 +125,7 @@ fn check(lent: &Lent, index: &NameIndex<Bytes>, stored: &[u32], out: &mut Answer
 
 /// How many names are not in the run of their own bucket; none where there is no table. A bucket that is refused is the answer, of
 /// several the lowest.
-fn missed(index: &NameIndex<Bytes>, stored: &[u32]) -> gimli::Result<Option<usize>> {
+pub fn missed(index: &NameIndex<Bytes>, stored: &[u32]) -> gimli::Result<Option<usize>> {
     if !index.has_hash_table() {
         return Ok(None);
     }

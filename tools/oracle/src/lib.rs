@@ -12,3 +12,25 @@ pub mod constants;
 pub use common::*;
 pub use endianity::*;
 pub use read::*;
+
+// The makers of sections and the calls on them, for the program of this package and for tools/compare; src/main.rs says what is where.
+// They name gimli as from outside.
+extern crate self as gimli;
+
+pub mod answers;
+pub mod bytes;
+pub mod case;
+pub mod check;
+pub mod damage;
+pub mod entries;
+pub mod fixed;
+pub mod hashes;
+pub mod lent;
+pub mod model;
+pub mod pool;
+pub mod query;
+pub mod random;
+pub mod real;
+pub mod several;
+pub mod tables;
+pub mod valid;

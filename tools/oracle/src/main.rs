@@ -6,33 +6,17 @@
 //! made of; `valid`, valid sections; `damage`, damaged ones; `fixed`, `entries` and `tables`, sections that are not random; `real`, those
 //! of compilers, linkers and gdb; `several`, those for the query; `case`, the file of sections; `lent`, the sections as gimli reads them
 //! and its errors as refusals; `answers`, the calls, `hashes`, those on hash tables, `pool`, those on entries, and `query`, the query;
-//! `check`, what must hold of gimli, of the valid sections and of the whole. The library of this package, src/lib.rs, is gimli.
-
-mod answers;
-mod bytes;
-mod case;
-mod check;
-mod damage;
-mod entries;
-mod fixed;
-mod hashes;
-mod lent;
-mod model;
-mod pool;
-mod query;
-mod random;
-mod real;
-mod several;
-mod tables;
-mod valid;
+//! `check`, what must hold of gimli, of the valid sections and of the whole. The library of this package, src/lib.rs, is gimli with all
+//! these modules beside it.
 
 use std::path::Path;
 
-use answers::{Answers, CALLS, REFUSALS};
-use case::Case;
-use damage::Damage;
-use model::Section;
-use random::Random;
+use gimli::answers::{self, Answers, CALLS, REFUSALS};
+use gimli::case::{self, Case};
+use gimli::damage::{self, Damage};
+use gimli::model::Section;
+use gimli::random::Random;
+use gimli::{check, entries, fixed, real, several, tables, valid};
 
 const SEED: u64 = 0x0064_6562_7567_0005;
 

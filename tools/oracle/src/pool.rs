@@ -35,7 +35,7 @@ impl Pool {
 }
 
 /// How many bytes a reader has, from gimli's text for debugging: it shows the first eight, and the count where there are more.
-fn left(text: &str, field: &str) -> usize {
+pub fn left(text: &str, field: &str) -> usize {
     let (_, reader) = text.split_once(&format!(" {field}: EndianSlice(")).unwrap();
     let (_, bytes) = reader.split_once('[').unwrap();
     let (bytes, _) = bytes.split_once(']').unwrap();

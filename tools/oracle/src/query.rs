@@ -9,19 +9,19 @@ use gimli::{DebugNames, DebugStr, NameEntry, NameIndex, NameTableIndex, NameType
 const LENT: usize = 4;
 
 /// What is shown of an entry.
-struct Record {
+pub struct Record {
     /// The place of its index in the section, and whether that has a hash table.
-    index: usize,
-    hashed: bool,
-    entry: usize,
-    name: u32,
-    tag: u16,
-    unit: Unit,
-    die: Option<usize>,
+    pub index: usize,
+    pub hashed: bool,
+    pub entry: usize,
+    pub name: u32,
+    pub tag: u16,
+    pub unit: Unit,
+    pub die: Option<usize>,
 }
 
 /// The unit of an entry. The default compile unit of the index is shown as one that an attribute names.
-enum Unit {
+pub enum Unit {
     None,
     Compile(usize),
     Default(usize),
@@ -31,7 +31,7 @@ enum Unit {
 
 impl Unit {
     /// Kind and value.
-    fn shown(&self) -> (u8, u64) {
+    pub fn shown(&self) -> (u8, u64) {
         match *self {
             Unit::None => (0, 0),
             Unit::Compile(offset) | Unit::Default(offset) => (1, offset as u64),
@@ -107,7 +107,7 @@ fn shown(record: &Record) -> String {
 }
 
 /// The records of a section. Each index is finished before the next header.
-fn section(lent: &Lent, hash: u32, name: &[u8], records: &mut Vec<Record>) -> gimli::Result<()> {
+pub fn section(lent: &Lent, hash: u32, name: &[u8], records: &mut Vec<Record>) -> gimli::Result<()> {
     let section = DebugNames::from(lent.names);
     let mut headers = section.headers();
     while let Some(header) = headers.next()? {

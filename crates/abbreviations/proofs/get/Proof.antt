@@ -1,16 +1,19 @@
--- `abbreviations::get` meets its contract: the search from a place on is decided by the declaration there or by the table after it (`found-step`), and each declaration takes a byte.
+-- `abbreviations::get` meets its contract: the search from a place on is decided by the declaration there, its head and its pairs, or by the table after it (`found-step`, `declared-step`), and each declaration takes a byte.
 -- Assumes nothing.
 use borrow.Author.Needs.{needs}
+use borrow.Author.Tests.{eq-eqb, ne-eqb}
 use denote.Ref.{now}
 use native.Mathlib.Omega.{arith}
-use Rattle.abbreviations.specs.Abbreviations.{found}
-use Rattle.abbreviations.proofs.AbbreviationLaws.{found-step, declared-forward}
-use Rattle.reader.specs.Parts.{leftAt}
 use mathlib.Core.Path.{_≡_, refl, sym}
-use borrow.Author.Tests.{eq-eqb, ne-eqb}
 use Rattle.abbreviations.specs.Abbreviations.{found}
+use Rattle.abbreviations.proofs.AbbreviationLaws.{found-step, declared-step, withEnd, parts-forward}
+use Rattle.reader.specs.Parts.{leftAt}
 use Rattle.abbreviations.proofs.get.Statement.{statement}
 use Rattle.abbreviations.proofs.get.Tie as tie
+use Rattle.abbreviations.proofs.get.Reads as reads
+use Rattle.abbreviations.proofs.get.Lts as lts
+use Rattle.abbreviations.proofs.read_head.Reads as read-head-reads
+use Rattle.abbreviations.proofs.skip_attributes.Reads as skip-attributes-reads
 
 abbrev Inv-loop : tie.InvT-loop
 Inv-loop s at end code place₀ place = found code s at end ≡ found code s place end
@@ -18,64 +21,113 @@ Inv-loop s at end code place₀ place = found code s at end ≡ found code s pla
 abbrev μ-loop : tie.MeasureT-loop
 μ-loop s at end code place₀ place = leftAt s place end
 
+-- src/lib.rt:259:5
 loop-holds : tie.Need-loop-holds Inv-loop μ-loop
 loop-holds c = refl
 
-read-declaration-requires : tie.Need-read-declaration-requires Inv-loop μ-loop
-read-declaration-requires c κs = search needs
+-- src/lib.rt:260:26
+read-head-requires : tie.Need-read-head-requires Inv-loop μ-loop
+read-head-requires c κs = search needs
 
-enum-known-d : tie.Need-enum-known-d Inv-loop μ-loop
-enum-known-d c = search needs
+-- src/lib.rt:261:29
+enum-known-h : tie.Need-enum-known-h Inv-loop μ-loop
+enum-known-h c = search needs
 
-returns : tie.Need-returns Inv-loop μ-loop
-returns c =
-    rw (
-      c .before .before .before .before .before .before .loop .inv,
-      found-step,
-      ← c .before .before .before .before .before .read-declaration .ensures,
-      c .before .before .before .d .given .1,
-      eq-eqb _ _ (c .if1 .taken),
-    )
-
-loop-less : tie.Need-loop-less Inv-loop μ-loop
-loop-less c =
-    let a = c .before .before .before .before .before .before .before .before .args in
-    let l = c .before .before .before .before .before .before .loop in
-    let read = rw (c .before .before .before .d .given .1) at (c .before .before .before .before .before .read-declaration .ensures) in
-    omega (arith, declared-forward (now (a .s)) (l .place) (a .end) _ (sym read))
-
-loop-again : tie.Need-loop-again Inv-loop μ-loop
-loop-again c =
-    rw (
-      c .before .before .before .before .before .before .loop .inv,
-      found-step,
-      ← c .before .before .before .before .before .read-declaration .ensures,
-      c .before .before .before .d .given .1,
-      ne-eqb _ _ (c .if1 .left),
-    )
-
+-- src/lib.rt:262:61
 enum-told : tie.Need-enum-told Inv-loop μ-loop
 enum-told c = search needs
 
-returns-2 : tie.Need-returns-2 Inv-loop μ-loop
-returns-2 c =
+-- src/lib.rt:262:30
+returns : tie.Need-returns Inv-loop μ-loop
+unfolding withEnd
+returns c =
     rw (
       c .before .before .before .loop .inv,
       found-step,
-      ← c .before .before .read-declaration .ensures,
+      declared-step,
+      ← c .before .before .read-head .ensures,
       c .enum-told .given .1,
     )
 
+-- src/lib.rt:263:31
 enum-known-e : tie.Need-enum-known-e Inv-loop μ-loop
 enum-known-e c = search needs
 
-returns-3 : tie.Need-returns-3 Inv-loop μ-loop
-returns-3 c =
+-- src/lib.rt:263:37
+returns-2 : tie.Need-returns-2 Inv-loop μ-loop
+unfolding withEnd
+returns-2 c =
     rw (
       c .before .before .before .before .loop .inv,
       found-step,
-      ← c .before .before .before .read-declaration .ensures,
+      declared-step,
+      ← c .before .before .before .read-head .ensures,
       c .before .e .given .1,
+    )
+
+-- src/lib.rt:265:26
+skip-attributes-requires : tie.Need-skip-attributes-requires Inv-loop μ-loop
+skip-attributes-requires c κs = search needs
+
+-- src/lib.rt:266:25
+enum-known-past : tie.Need-enum-known-past Inv-loop μ-loop
+enum-known-past c = search needs
+
+-- src/lib.rt:267:30
+enum-known-e-2 : tie.Need-enum-known-e-2 Inv-loop μ-loop
+enum-known-e-2 c = search needs
+
+-- src/lib.rt:267:36
+returns-3 : tie.Need-returns-3 Inv-loop μ-loop
+unfolding withEnd
+returns-3 c =
+    rw (
+      c .before .before .before .before .before .before .before .before .loop .inv,
+      found-step,
+      declared-step,
+      ← c .before .before .before .before .before .before .before .read-head .ensures,
+      c .before .before .before .before .before .h .given .1,
+      ← c .before .before .before .skip-attributes .ensures,
+      c .before .e2 .given .1,
+    )
+
+-- src/lib.rt:270:13
+returns-4 : tie.Need-returns-4 Inv-loop μ-loop
+unfolding withEnd
+returns-4 c =
+    rw (
+      c .before .before .before .before .before .before .before .before .before .before .loop .inv,
+      found-step,
+      declared-step,
+      ← c .before .before .before .before .before .before .before .before .before .read-head .ensures,
+      c .before .before .before .before .before .before .before .h .given .1,
+      ← c .before .before .before .before .before .skip-attributes .ensures,
+      c .before .before .before .past .given .1,
+      eq-eqb _ _ (c .if1 .taken),
+    )
+
+-- src/lib.rt:259:5
+loop-less : tie.Need-loop-less Inv-loop μ-loop
+loop-less c =
+    let a = c .before .before .before .before .before .before .before .before .before .before .before .before .args in
+    let l = c .before .before .before .before .before .before .before .before .before .before .loop in
+    let read = rw (c .before .before .before .before .before .before .before .h .given .1) at (c .before .before .before .before .before .before .before .before .before .read-head .ensures) in
+    let skipped = rw (c .before .before .before .past .given .1) at (c .before .before .before .before .before .skip-attributes .ensures) in
+    omega (arith, parts-forward (now (a .s)) (l .place) (a .end) _ _ (sym read) (sym skipped))
+
+-- src/lib.rt:259:5
+loop-again : tie.Need-loop-again Inv-loop μ-loop
+unfolding withEnd
+loop-again c =
+    rw (
+      c .before .before .before .before .before .before .before .before .before .before .loop .inv,
+      found-step,
+      declared-step,
+      ← c .before .before .before .before .before .before .before .before .before .read-head .ensures,
+      c .before .before .before .before .before .before .before .h .given .1,
+      ← c .before .before .before .before .before .skip-attributes .ensures,
+      c .before .before .before .past .given .1,
+      ne-eqb _ _ (c .if1 .left),
     )
 
 pub get-spec : {M : Type 1} → statement M
@@ -85,12 +137,16 @@ get-spec =
     Inv-loop
     μ-loop
     loop-holds
-    read-declaration-requires
-    enum-known-d
-    returns
-    loop-less
-    loop-again
+    read-head-requires
+    enum-known-h
     enum-told
-    returns-2
+    returns
     enum-known-e
-    returns-3)
+    returns-2
+    skip-attributes-requires
+    enum-known-past
+    enum-known-e-2
+    returns-3
+    returns-4
+    loop-less
+    loop-again)

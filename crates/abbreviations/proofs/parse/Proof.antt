@@ -1,83 +1,42 @@
--- `abbreviations::parse` meets its contract: the table from a place on is the declaration there and the table after it (`parsed-step`), and each declaration takes a byte.
+-- `abbreviations::parse` meets its contract: no declaration has code 0, so the search for it reads the whole table (`parsed-found`).
 -- Assumes nothing.
 use borrow.Author.Needs.{needs}
-use denote.Ref.{now}
-use native.Mathlib.Omega.{arith}
-use Rattle.abbreviations.specs.Abbreviations.{parsed}
-use Rattle.abbreviations.proofs.AbbreviationLaws.{parsed-step, declared-forward}
-use Rattle.reader.specs.Parts.{leftAt}
-use mathlib.Core.Path.{_≡_, refl, sym}
-use Rattle.abbreviations.specs.Abbreviations.{parsed}
+use Rattle.abbreviations.proofs.AbbreviationLaws.{parsed-found}
 use Rattle.abbreviations.proofs.parse.Statement.{statement}
 use Rattle.abbreviations.proofs.parse.Tie as tie
+use Rattle.abbreviations.proofs.parse.Reads as reads
+use Rattle.abbreviations.proofs.parse.Lts as lts
+use Rattle.abbreviations.proofs.get.Reads as get-reads
 
-abbrev Inv-loop : tie.InvT-loop
-Inv-loop s at end place₀ place = parsed s at end ≡ parsed s place end
+-- src/lib.rt:278:11
+get-requires : tie.Need-get-requires
+get-requires c κs = search needs
 
-abbrev μ-loop : tie.MeasureT-loop
-μ-loop s at end place₀ place = leftAt s place end
-
-loop-holds : tie.Need-loop-holds Inv-loop μ-loop
-loop-holds c = refl
-
-read-declaration-requires : tie.Need-read-declaration-requires Inv-loop μ-loop
-read-declaration-requires c κs = search needs
-
-enum-known-d : tie.Need-enum-known-d Inv-loop μ-loop
-enum-known-d c = search needs
-
-loop-less : tie.Need-loop-less Inv-loop μ-loop
-loop-less c =
-    let a = c .before .before .before .before .before .before .args in
-    let l = c .before .before .before .before .loop in
-    let read = rw (c .before .d .given .1) at (c .before .before .before .read-declaration .ensures) in
-    omega (arith, declared-forward (now (a .s)) (l .place) (a .end) _ (sym read))
-
-loop-again : tie.Need-loop-again Inv-loop μ-loop
-loop-again c =
-    rw (
-      c .before .before .before .before .loop .inv,
-      parsed-step,
-      ← c .before .before .before .read-declaration .ensures,
-      c .before .d .given .1,
-    )
-
-enum-told : tie.Need-enum-told Inv-loop μ-loop
+-- src/lib.rt:279:39
+enum-told : tie.Need-enum-told
 enum-told c = search needs
 
-returns : tie.Need-returns Inv-loop μ-loop
+-- src/lib.rt:280:35
+enum-known-e : tie.Need-enum-known-e
+enum-known-e c = search needs
+
+-- src/lib.rt:275:1
+returns : tie.Need-returns
 returns c =
     rw (
-      c .before .before .before .loop .inv,
-      parsed-step,
-      ← c .before .before .read-declaration .ensures,
+      parsed-found,
+      ← c .before .before .get .ensures,
       c .enum-told .given .1,
     )
 
-enum-known-e : tie.Need-enum-known-e Inv-loop μ-loop
-enum-known-e c = search needs
-
-returns-2 : tie.Need-returns-2 Inv-loop μ-loop
+-- src/lib.rt:275:1
+returns-2 : tie.Need-returns-2
 returns-2 c =
     rw (
-      c .before .before .before .before .loop .inv,
-      parsed-step,
-      ← c .before .before .before .read-declaration .ensures,
+      parsed-found,
+      ← c .before .before .before .get .ensures,
       c .before .e .given .1,
     )
 
 pub parse-spec : {M : Type 1} → statement M
-parse-spec =
-    tie.close
-    (tie.spec
-    Inv-loop
-    μ-loop
-    loop-holds
-    read-declaration-requires
-    enum-known-d
-    loop-less
-    loop-again
-    enum-told
-    returns
-    enum-known-e
-    returns-2)
+parse-spec = tie.close (tie.spec get-requires enum-told enum-known-e returns returns-2)

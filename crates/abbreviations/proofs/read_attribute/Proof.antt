@@ -1,108 +1,43 @@
--- `abbreviations::read_attribute` meets its contract: each answer is the definition's, by the calls and the tests that led there.
+-- `abbreviations::read_attribute` meets its contract: a short pair is a name and a form (`pair-short`), and all else is read as the definition says.
 -- Assumes nothing.
 use borrow.Author.Needs.{needs}
-use borrow.Author.Tests.{eq-eqb, ne-eqb}
-use Rattle.abbreviations.specs.Abbreviations.{pair}
+use borrow.Author.Tests.{ne-eqb}
+use denote.Ref.{now}
+use native.Mathlib.Omega.{arith}
+use mathlib.Core.Path.{_∙_}
+use Rattle.abbreviations.proofs.AbbreviationLaws.{short-place, pair-short}
 use Rattle.abbreviations.proofs.read_attribute.Statement.{statement}
 use Rattle.abbreviations.proofs.read_attribute.Tie as tie
+use Rattle.abbreviations.proofs.read_attribute.Reads as reads
+use Rattle.abbreviations.proofs.read_attribute.Lts as lts
+use Rattle.abbreviations.proofs.long_attribute.Reads as long-attribute-reads
+use Rattle.abbreviations.proofs.short_pair.Reads as short-pair-reads
 
-u16-requires : tie.Need-u16-requires
-u16-requires c κs = search needs
+-- src/lib.rt:143:9
+short-pair-requires : tie.Need-short-pair-requires
+short-pair-requires c κs = search needs
 
-enum-known-r : tie.Need-enum-known-r
-enum-known-r c = search needs
+-- src/lib.rt:145:9
+long-attribute-requires : tie.Need-long-attribute-requires
+long-attribute-requires c κs = search needs
 
-enum-known-e : tie.Need-enum-known-e
-enum-known-e c = search needs
-
+-- src/lib.rt:145:9
 returns : tie.Need-returns
-unfolding pair
-returns c =
-    rw (
-      ← c .before .before .before .u16 .ensures,
-      c .before .e .given .1,
-    )
+returns c = search needs
 
-u16-requires-2 : tie.Need-u16-requires-2
-u16-requires-2 c κs = search needs
+-- src/lib.rt:150:15
+add-t8 : tie.Need-add-t8
+add-t8 c =
+    let a = c .before .before .before .args in
+    omega (arith, short-place (now (a .s)) (a .at) (a .end) λ e. c .if1 .left (c .before .short-pair .ensures ∙ e))
 
-enum-known-r-2 : tie.Need-enum-known-r-2
-enum-known-r-2 c = search needs
-
-enum-known-e-2 : tie.Need-enum-known-e-2
-enum-known-e-2 c = search needs
-
+-- src/lib.rt:140:1
 returns-2 : tie.Need-returns-2
-unfolding pair
 returns-2 c =
-    rw (
-      ← c .before .before .before .before .before .before .before .u16 .ensures,
-      c .before .before .before .before .before .r .given .1,
-      ← c .before .before .before .u162 .ensures,
-      c .before .e2 .given .1,
-    )
-
-returns-3 : tie.Need-returns-3
-unfolding pair
-returns-3 c =
-    rw (
-      ← c .before .before .before .before .before .before .before .before .before .before .before .u16 .ensures,
-      c .before .before .before .before .before .before .before .before .before .r .given .1,
-      ← c .before .before .before .before .before .before .before .u162 .ensures,
-      c .before .before .before .before .before .r2 .given .1,
-      eq-eqb _ _ (c .before .before .if1 .taken),
-      eq-eqb _ _ (c .if2 .taken),
-    )
-
-returns-4 : tie.Need-returns-4
-unfolding pair
-returns-4 c =
-    rw (
-      ← c .before .before .before .before .before .before .before .before .before .before .before .u16 .ensures,
-      c .before .before .before .before .before .before .before .before .before .r .given .1,
-      ← c .before .before .before .before .before .before .before .u162 .ensures,
-      c .before .before .before .before .before .r2 .given .1,
-      eq-eqb _ _ (c .before .before .if1 .taken),
-      ne-eqb _ _ (c .if2 .left),
-    )
-
-returns-5 : tie.Need-returns-5
-unfolding pair
-returns-5 c =
-    rw (
-      ← c .before .before .before .before .before .before .before .before .before .before .before .u16 .ensures,
-      c .before .before .before .before .before .before .before .before .before .r .given .1,
-      ← c .before .before .before .before .before .before .before .u162 .ensures,
-      c .before .before .before .before .before .r2 .given .1,
-      ne-eqb _ _ (c .before .before .if1 .left),
-      eq-eqb _ _ (c .if3 .taken),
-    )
-
-returns-6 : tie.Need-returns-6
-unfolding pair
-returns-6 c =
-    rw (
-      ← c .before .before .before .before .before .before .before .before .before .before .before .u16 .ensures,
-      c .before .before .before .before .before .before .before .before .before .r .given .1,
-      ← c .before .before .before .before .before .before .before .u162 .ensures,
-      c .before .before .before .before .before .r2 .given .1,
-      ne-eqb _ _ (c .before .before .if1 .left),
-      ne-eqb _ _ (c .if3 .left),
-    )
+    let a = c .before .before .before .args in
+    let same = c .before .short-pair .ensures in
+    rw (pair-short (now (a .s)) (a .at) (a .end) (λ e. c .if1 .left (same ∙ e)), ← same)
 
 pub read-attribute-spec : {M : Type 1} → statement M
 read-attribute-spec =
-    tie.close
-    (tie.spec
-    u16-requires
-    enum-known-r
-    enum-known-e
-    returns
-    u16-requires-2
-    enum-known-r-2
-    enum-known-e-2
-    returns-2
-    returns-3
-    returns-4
-    returns-5
-    returns-6)
+    tie.close (tie.spec short-pair-requires long-attribute-requires returns add-t8 returns-2)

@@ -1,116 +1,64 @@
--- `abbreviations::read_head` meets its contract: each answer is the definition's, by the calls and the tests that led there.
+-- `abbreviations::read_head` meets its contract: a short pair that is not 0 is a code and a tag (`head-short`), and all else is read as the definition says.
 -- Assumes nothing.
 use borrow.Author.Needs.{needs}
-use borrow.Author.Tests.{eq-eqb, ne-eqb}
-use Rattle.abbreviations.specs.Abbreviations.{head}
+use borrow.Author.Tests.{ne-eqb}
+use denote.Ref.{now}
+use native.Mathlib.Omega.{arith}
+use mathlib.Core.Path.{_∙_}
+use Rattle.abbreviations.proofs.AbbreviationLaws.{short-place, head-short}
 use Rattle.abbreviations.proofs.read_head.Statement.{statement}
 use Rattle.abbreviations.proofs.read_head.Tie as tie
+use Rattle.abbreviations.proofs.read_head.Reads as reads
+use Rattle.abbreviations.proofs.read_head.Lts as lts
+use Rattle.abbreviations.proofs.long_head.Reads as long-head-reads
+use Rattle.abbreviations.proofs.short_pair.Reads as short-pair-reads
 
-is-empty-requires : tie.Need-is-empty-requires
-is-empty-requires c κs = search needs
+-- src/lib.rt:211:9
+short-pair-requires : tie.Need-short-pair-requires
+short-pair-requires c κs = search needs
 
+-- src/lib.rt:213:9
+long-head-requires : tie.Need-long-head-requires
+long-head-requires c κs = search needs
+
+-- src/lib.rt:213:9
 returns : tie.Need-returns
-unfolding head
-returns c =
-    rw (
-      ← c .before .is-empty .ensures,
-      c .if1 .taken,
-    )
+returns c = search needs
 
-unsigned-requires : tie.Need-unsigned-requires
-unsigned-requires c κs = search needs
+-- src/lib.rt:216:9
+long-head-requires-2 : tie.Need-long-head-requires-2
+long-head-requires-2 c κs = search needs
 
-enum-known-r : tie.Need-enum-known-r
-enum-known-r c = search needs
-
-enum-known-e : tie.Need-enum-known-e
-enum-known-e c = search needs
-
+-- src/lib.rt:216:9
 returns-2 : tie.Need-returns-2
-unfolding head
-returns-2 c =
-    rw (
-      ← c .before .before .before .before .before .is-empty .ensures,
-      c .before .before .before .before .if1 .left,
-      ← c .before .before .before .unsigned .ensures,
-      c .before .e .given .1,
-    )
+returns-2 c = search needs
 
+-- src/lib.rt:219:15
+cast-t7 : tie.Need-cast-t7
+cast-t7 c = search needs
+
+-- src/lib.rt:221:15
+add-t9 : tie.Need-add-t9
+add-t9 c =
+    let a = c .before .before .before .before .args in
+    omega (arith, short-place (now (a .s)) (a .at) (a .end) λ e. c .if2 .left (c .before .before .short-pair .ensures ∙ e))
+
+-- src/lib.rt:208:1
 returns-3 : tie.Need-returns-3
-unfolding head
 returns-3 c =
-    rw (
-      ← c .before .before .before .before .before .before .before .is-empty .ensures,
-      c .before .before .before .before .before .before .if1 .left,
-      ← c .before .before .before .before .before .unsigned .ensures,
-      c .before .before .before .r .given .1,
-      eq-eqb _ _ (c .if2 .taken),
-    )
-
-u16-requires : tie.Need-u16-requires
-u16-requires c κs = search needs
-
-enum-known-r-2 : tie.Need-enum-known-r-2
-enum-known-r-2 c = search needs
-
-enum-known-e-2 : tie.Need-enum-known-e-2
-enum-known-e-2 c = search needs
-
-returns-4 : tie.Need-returns-4
-unfolding head
-returns-4 c =
-    rw (
-      ← c .before .before .before .before .before .before .before .before .before .before .before .is-empty .ensures,
-      c .before .before .before .before .before .before .before .before .before .before .if1 .left,
-      ← c .before .before .before .before .before .before .before .before .before .unsigned .ensures,
-      c .before .before .before .before .before .before .before .r .given .1,
-      ne-eqb _ _ (c .before .before .before .before .if2 .left),
-      ← c .before .before .before .u16 .ensures,
-      c .before .e2 .given .1,
-    )
-
-returns-5 : tie.Need-returns-5
-unfolding head
-returns-5 c =
-    rw (
-      ← c .before .before .before .before .before .before .before .before .before .before .before .before .before .is-empty .ensures,
-      c .before .before .before .before .before .before .before .before .before .before .before .before .if1 .left,
-      ← c .before .before .before .before .before .before .before .before .before .before .before .unsigned .ensures,
-      c .before .before .before .before .before .before .before .before .before .r .given .1,
-      ne-eqb _ _ (c .before .before .before .before .before .before .if2 .left),
-      ← c .before .before .before .before .before .u16 .ensures,
-      c .before .before .before .r2 .given .1,
-      eq-eqb _ _ (c .if3 .taken),
-    )
-
-returns-6 : tie.Need-returns-6
-unfolding head
-returns-6 c =
-    rw (
-      ← c .before .before .before .before .before .before .before .before .before .before .before .before .before .is-empty .ensures,
-      c .before .before .before .before .before .before .before .before .before .before .before .before .if1 .left,
-      ← c .before .before .before .before .before .before .before .before .before .before .before .unsigned .ensures,
-      c .before .before .before .before .before .before .before .before .before .r .given .1,
-      ne-eqb _ _ (c .before .before .before .before .before .before .if2 .left),
-      ← c .before .before .before .before .before .u16 .ensures,
-      c .before .before .before .r2 .given .1,
-      ne-eqb _ _ (c .if3 .left),
-    )
+    let a = c .before .before .before .before .args in
+    let same = c .before .before .short-pair .ensures in
+    rw (head-short (now (a .s)) (a .at) (a .end) (λ e. c .if2 .left (same ∙ e)) (λ e. c .before .if1 .left (same ∙ e)), ← same)
 
 pub read-head-spec : {M : Type 1} → statement M
 read-head-spec =
     tie.close
     (tie.spec
-    is-empty-requires
+    short-pair-requires
+    long-head-requires
     returns
-    unsigned-requires
-    enum-known-r
-    enum-known-e
+    long-head-requires-2
     returns-2
-    returns-3
-    u16-requires
-    enum-known-r-2
-    enum-known-e-2
-    returns-4
-    returns-5
-    returns-6)
+    cast-t7
+    add-t9
+    returns-3)

@@ -1,15 +1,19 @@
--- `abbreviations::skip_attributes` meets its contract: the pairs from a place on are the pair there and the pairs after it (`attributes-end-step`), and each pair takes a byte.
+-- `abbreviations::skip_attributes` meets its contract: the pairs from a place on are the pair there and the pairs after it (`attributes-end-step`; `pairs-on` and `pairs-last` for a short pair), and each pair takes a byte.
 -- Assumes nothing.
 use borrow.Author.Needs.{needs}
-use Rattle.abbreviations.proofs.AbbreviationLaws.{attributes-end-step, pair-forward}
-use Rattle.reader.specs.Parts.{leftAt}
+use borrow.Author.Tests.{eq-eqb, ne-eqb}
 use denote.Ref.{now}
 use native.Mathlib.Omega.{arith}
-use mathlib.Core.Path.{_≡_, refl, sym}
-use borrow.Author.Tests.{eq-eqb, ne-eqb}
+use mathlib.Core.Path.{_≡_, refl, sym, _∙_}
+use Rattle.reader.specs.Parts.{leftAt}
 use Rattle.abbreviations.specs.Abbreviations.{attributesEnd}
+use Rattle.abbreviations.proofs.AbbreviationLaws.{attributes-end-step, pair-forward, short-place, pairs-on, pairs-last}
 use Rattle.abbreviations.proofs.skip_attributes.Statement.{statement}
 use Rattle.abbreviations.proofs.skip_attributes.Tie as tie
+use Rattle.abbreviations.proofs.skip_attributes.Reads as reads
+use Rattle.abbreviations.proofs.skip_attributes.Lts as lts
+use Rattle.abbreviations.proofs.long_attribute.Reads as long-attribute-reads
+use Rattle.abbreviations.proofs.short_pair.Reads as short-pair-reads
 
 abbrev Inv-loop : tie.InvT-loop
 Inv-loop s at end place₀ place = attributesEnd s at end ≡ attributesEnd s place end
@@ -17,53 +21,105 @@ Inv-loop s at end place₀ place = attributesEnd s at end ≡ attributesEnd s pl
 abbrev μ-loop : tie.MeasureT-loop
 μ-loop s at end place₀ place = leftAt s place end
 
+-- src/lib.rt:159:5
 loop-holds : tie.Need-loop-holds Inv-loop μ-loop
 loop-holds c = refl
 
-read-attribute-requires : tie.Need-read-attribute-requires Inv-loop μ-loop
-read-attribute-requires c κs = search needs
+-- src/lib.rt:160:13
+short-pair-requires : tie.Need-short-pair-requires Inv-loop μ-loop
+short-pair-requires c κs = search needs
 
+-- src/lib.rt:162:32
+add-t10 : tie.Need-add-t10 Inv-loop μ-loop
+add-t10 c =
+    let a = c .before .before .before .before .args in
+    let l = c .before .before .loop in
+    let same = c .before .short-pair .ensures in
+    omega (arith, short-place (now (a .s)) (l .place) (a .end) λ e. omega (arith, same, c .if1 .taken, e))
+
+-- src/lib.rt:162:13
+returns : tie.Need-returns Inv-loop μ-loop
+returns c =
+    let a = c .before .before .before .before .args in
+    let l = c .before .before .loop in
+    let same = c .before .short-pair .ensures in
+    rw (l .inv, pairs-last (now (a .s)) (l .place) (a .end) (sym same ∙ c .if1 .taken))
+
+-- src/lib.rt:165:27
+long-attribute-requires : tie.Need-long-attribute-requires Inv-loop μ-loop
+long-attribute-requires c κs = search needs
+
+-- src/lib.rt:166:38
 enum-known-r : tie.Need-enum-known-r Inv-loop μ-loop
 enum-known-r c = search needs
 
+-- src/lib.rt:167:40
 enum-known-e : tie.Need-enum-known-e Inv-loop μ-loop
 enum-known-e c = search needs
 
-returns : tie.Need-returns Inv-loop μ-loop
-returns c =
-    rw (
-      c .before .before .before .before .loop .inv,
-      attributes-end-step,
-      ← c .before .before .before .read-attribute .ensures,
-      c .before .e .given .1,
-    )
-
+-- src/lib.rt:167:46
 returns-2 : tie.Need-returns-2 Inv-loop μ-loop
 returns-2 c =
     rw (
-      c .before .before .before .before .before .before .loop .inv,
+      c .before .before .before .before .before .before .before .loop .inv,
       attributes-end-step,
-      ← c .before .before .before .before .before .read-attribute .ensures,
-      c .before .before .before .r .given .1,
-      eq-eqb _ _ (c .if1 .taken),
+      ← c .before .before .before .long-attribute .ensures,
+      c .before .e .given .1,
     )
 
+-- src/lib.rt:170:17
+returns-3 : tie.Need-returns-3 Inv-loop μ-loop
+returns-3 c =
+    rw (
+      c .before .before .before .before .before .before .before .before .before .loop .inv,
+      attributes-end-step,
+      ← c .before .before .before .before .before .long-attribute .ensures,
+      c .before .before .before .r .given .1,
+      eq-eqb _ _ (c .if3 .taken),
+    )
+
+-- src/lib.rt:159:5
 loop-less : tie.Need-loop-less Inv-loop μ-loop
 loop-less c =
-    let a = c .before .before .before .before .before .before .before .before .args in
-    let l = c .before .before .before .before .before .before .loop in
-    let read = rw (c .before .before .before .r .given .1) at (c .before .before .before .before .before .read-attribute .ensures) in
+    let a = c .before .before .before .before .before .before .before .before .before .before .before .args in
+    let l = c .before .before .before .before .before .before .before .before .before .loop in
+    let read = rw (c .before .before .before .r .given .1) at (c .before .before .before .before .before .long-attribute .ensures) in
     omega (arith, pair-forward (now (a .s)) (l .place) (a .end) _ (sym read))
 
+-- src/lib.rt:159:5
 loop-again : tie.Need-loop-again Inv-loop μ-loop
 loop-again c =
     rw (
-      c .before .before .before .before .before .before .loop .inv,
+      c .before .before .before .before .before .before .before .before .before .loop .inv,
       attributes-end-step,
-      ← c .before .before .before .before .before .read-attribute .ensures,
+      ← c .before .before .before .before .before .long-attribute .ensures,
       c .before .before .before .r .given .1,
-      ne-eqb _ _ (c .if1 .left),
+      ne-eqb _ _ (c .if3 .left),
     )
+
+-- src/lib.rt:174:21
+add-place : tie.Need-add-place Inv-loop μ-loop
+add-place c =
+    let a = c .before .before .before .before .before .args in
+    let l = c .before .before .before .loop in
+    let same = c .before .before .short-pair .ensures in
+    omega (arith, short-place (now (a .s)) (l .place) (a .end) λ e. c .if2 .left (same ∙ e))
+
+-- src/lib.rt:159:5
+loop-less-2 : tie.Need-loop-less-2 Inv-loop μ-loop
+loop-less-2 c =
+    let a = c .before .before .before .before .before .args in
+    let l = c .before .before .before .loop in
+    let same = c .before .before .short-pair .ensures in
+    omega (arith, short-place (now (a .s)) (l .place) (a .end) λ e. c .if2 .left (same ∙ e))
+
+-- src/lib.rt:159:5
+loop-again-2 : tie.Need-loop-again-2 Inv-loop μ-loop
+loop-again-2 c =
+    let a = c .before .before .before .before .before .args in
+    let l = c .before .before .before .loop in
+    let same = c .before .before .short-pair .ensures in
+    l .inv ∙ pairs-on (now (a .s)) (l .place) (a .end) (λ e. c .if2 .left (same ∙ e)) (λ e. c .before .if1 .left (same ∙ e))
 
 pub skip-attributes-spec : {M : Type 1} → statement M
 skip-attributes-spec =
@@ -72,10 +128,16 @@ skip-attributes-spec =
     Inv-loop
     μ-loop
     loop-holds
-    read-attribute-requires
+    short-pair-requires
+    add-t10
+    returns
+    long-attribute-requires
     enum-known-r
     enum-known-e
-    returns
     returns-2
+    returns-3
     loop-less
-    loop-again)
+    loop-again
+    add-place
+    loop-less-2
+    loop-again-2)

@@ -1,20 +1,27 @@
 -- `hashes::bucket::find_by_bucket` meets its contract: each answer is the definition's, by the calls and the tests that led there.
 -- Assumes nothing.
 use borrow.Author.Needs.{needs}
-use borrow.Author.Tests.{eq-eqb, ne-eqb}
 use Rattle.hashes.specs.Lookups.{findByBucket}
 use Rattle.hashes.proofs.bucket.find_by_bucket.Statement.{statement}
 use Rattle.hashes.proofs.bucket.find_by_bucket.Tie as tie
+use Rattle.hashes.proofs.bucket.find_by_bucket.Reads as reads
+use Rattle.hashes.proofs.bucket.find_by_bucket.Lts as lts
+use Rattle.hashes.proofs.bucket.first_name.Reads as first-name-reads
+use Rattle.index.proofs.fit.Reads as fit-reads
 
+-- src/bucket.rt:115:19
 fit-requires : tie.Need-fit-requires
 fit-requires c κs = search needs
 
+-- src/bucket.rt:116:26
 enum-known-p : tie.Need-enum-known-p
 enum-known-p c = search needs
 
+-- src/bucket.rt:117:28
 enum-known-e : tie.Need-enum-known-e
 enum-known-e c = search needs
 
+-- src/bucket.rt:117:34
 returns : tie.Need-returns
 unfolding findByBucket
 returns c =
@@ -23,108 +30,53 @@ returns c =
       c .before .e .given .1,
     )
 
-mul-skip : tie.Need-mul-skip
-mul-skip c = search needs
+-- src/bucket.rt:119:11
+first-name-requires : tie.Need-first-name-requires
+first-name-requires c κs = search needs
 
-skip-requires : tie.Need-skip-requires
-skip-requires c κs = search needs
+-- src/bucket.rt:127:46
+enum-told : tie.Need-enum-told
+enum-told c = search needs
 
-enum-known-next : tie.Need-enum-known-next
-enum-known-next c = search needs
+-- src/bucket.rt:128:25
+enum-known-first : tie.Need-enum-known-first
+enum-known-first c = search needs
 
+-- src/bucket.rt:132:28
 enum-known-e-2 : tie.Need-enum-known-e-2
 enum-known-e-2 c = search needs
 
+-- src/bucket.rt:107:1
 returns-2 : tie.Need-returns-2
 unfolding findByBucket
 returns-2 c =
     rw (
-      ← c .before .before .before .before .before .before .before .fit .ensures,
-      c .before .before .before .before .before .p .given .1,
-      ← c .before .before .before .skip .ensures,
-      c .before .e2 .given .1,
+      ← c .before .before .before .before .before .before .fit .ensures,
+      c .before .before .before .before .p .given .1,
+      ← c .before .before .first-name .ensures,
+      c .enum-told .given .1,
     )
 
-read-u32-requires : tie.Need-read-u32-requires
-read-u32-requires c κs = search needs
-
-enum-known-r : tie.Need-enum-known-r
-enum-known-r c = search needs
-
-enum-known-e-3 : tie.Need-enum-known-e-3
-enum-known-e-3 c = search needs
-
+-- src/bucket.rt:107:1
 returns-3 : tie.Need-returns-3
 unfolding findByBucket
 returns-3 c =
     rw (
-      ← c .before .before .before .before .before .before .before .before .before .before .before .fit .ensures,
-      c .before .before .before .before .before .before .before .before .before .p .given .1,
-      ← c .before .before .before .before .before .before .before .skip .ensures,
-      c .before .before .before .before .before .next .given .1,
-      ← c .before .before .before .read-u32 .ensures,
-      c .before .e3 .given .1,
+      ← c .before .before .before .before .before .before .before .fit .ensures,
+      c .before .before .before .before .before .p .given .1,
+      ← c .before .before .before .first-name .ensures,
+      c .before .first .given .1,
     )
 
+-- src/bucket.rt:107:1
 returns-4 : tie.Need-returns-4
 unfolding findByBucket
 returns-4 c =
     rw (
-      ← c .before .before .before .before .before .before .before .before .before .before .before .before .before .fit .ensures,
-      c .before .before .before .before .before .before .before .before .before .before .before .p .given .1,
-      ← c .before .before .before .before .before .before .before .before .before .skip .ensures,
-      c .before .before .before .before .before .before .before .next .given .1,
-      ← c .before .before .before .before .before .read-u32 .ensures,
-      c .before .before .before .r .given .1,
-      eq-eqb _ _ (c .if1 .taken),
-    )
-
-sub-first : tie.Need-sub-first
-sub-first c = search needs
-
-cast-skip : tie.Need-cast-skip
-cast-skip c = search needs
-
-mul-skip-2 : tie.Need-mul-skip-2
-mul-skip-2 c = search needs
-
-skip-requires-2 : tie.Need-skip-requires-2
-skip-requires-2 c κs = search needs
-
-enum-told : tie.Need-enum-told
-enum-told c = search needs
-
-enum-known-e-4 : tie.Need-enum-known-e-4
-enum-known-e-4 c = search needs
-
-returns-5 : tie.Need-returns-5
-unfolding findByBucket
-returns-5 c =
-    rw (
-      ← c .before .before .before .before .before .before .before .before .before .before .before .before .before .before .before .before .before .fit .ensures,
-      c .before .before .before .before .before .before .before .before .before .before .before .before .before .before .before .p .given .1,
-      ← c .before .before .before .before .before .before .before .before .before .before .before .before .before .skip .ensures,
-      c .before .before .before .before .before .before .before .before .before .before .before .next .given .1,
-      ← c .before .before .before .before .before .before .before .before .before .read-u32 .ensures,
-      c .before .before .before .before .before .before .before .r .given .1,
-      ne-eqb _ _ (c .before .before .before .before .if1 .left),
-      ← c .before .before .skip2 .ensures,
-      c .enum-told .given .1,
-    )
-
-returns-6 : tie.Need-returns-6
-unfolding findByBucket
-returns-6 c =
-    rw (
-      ← c .before .before .before .before .before .before .before .before .before .before .before .before .before .before .before .before .before .before .fit .ensures,
-      c .before .before .before .before .before .before .before .before .before .before .before .before .before .before .before .before .p .given .1,
-      ← c .before .before .before .before .before .before .before .before .before .before .before .before .before .before .skip .ensures,
-      c .before .before .before .before .before .before .before .before .before .before .before .before .next .given .1,
-      ← c .before .before .before .before .before .before .before .before .before .before .read-u32 .ensures,
-      c .before .before .before .before .before .before .before .before .r .given .1,
-      ne-eqb _ _ (c .before .before .before .before .before .if1 .left),
-      ← c .before .before .before .skip2 .ensures,
-      c .before .e4 .given .1,
+      ← c .before .before .before .before .before .before .before .fit .ensures,
+      c .before .before .before .before .before .p .given .1,
+      ← c .before .before .before .first-name .ensures,
+      c .before .e2 .given .1,
     )
 
 pub find-by-bucket-spec : {M : Type 1} → statement M
@@ -135,21 +87,10 @@ find-by-bucket-spec =
     enum-known-p
     enum-known-e
     returns
-    mul-skip
-    skip-requires
-    enum-known-next
+    first-name-requires
+    enum-told
+    enum-known-first
     enum-known-e-2
     returns-2
-    read-u32-requires
-    enum-known-r
-    enum-known-e-3
     returns-3
-    returns-4
-    sub-first
-    cast-skip
-    mul-skip-2
-    skip-requires-2
-    enum-told
-    enum-known-e-4
-    returns-5
-    returns-6)
+    returns-4)

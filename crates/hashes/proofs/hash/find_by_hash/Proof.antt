@@ -1,38 +1,97 @@
 -- `hashes::hash::find_by_hash` meets its contract: each answer is the definition's, by the calls and the tests that led there.
 -- Assumes nothing.
 use borrow.Author.Needs.{needs}
-use Rattle.hashes.specs.Lookups.{findByHash}
+use Rattle.hashes.specs.Lookups.{findByHash, findByBucket}
 use Rattle.hashes.proofs.hash.find_by_hash.Statement.{statement}
 use Rattle.hashes.proofs.hash.find_by_hash.Tie as tie
+use Rattle.hashes.proofs.hash.find_by_hash.Reads as reads
+use Rattle.hashes.proofs.hash.find_by_hash.Lts as lts
+use Rattle.hashes.proofs.bucket.bucket_of.Reads as bucket-of-reads
+use Rattle.hashes.proofs.bucket.first_name.Reads as first-name-reads
+use Rattle.hashes.proofs.hash.cursor_at.Reads as cursor-at-reads
+use Rattle.index.proofs.fit.Reads as fit-reads
 
+-- src/hash.rt:50:9
 bucket-of-requires : tie.Need-bucket-of-requires
 bucket-of-requires c κs = search needs
 
-find-by-bucket-requires : tie.Need-find-by-bucket-requires
-find-by-bucket-requires c κs = search needs
+-- src/hash.rt:51:19
+fit-requires : tie.Need-fit-requires
+fit-requires c κs = search needs
 
-enum-known-bucket-iter : tie.Need-enum-known-bucket-iter
-enum-known-bucket-iter c = search needs
+-- src/hash.rt:52:26
+enum-known-p : tie.Need-enum-known-p
+enum-known-p c = search needs
 
+-- src/hash.rt:53:28
 enum-known-e : tie.Need-enum-known-e
 enum-known-e c = search needs
 
+-- src/hash.rt:53:34
 returns : tie.Need-returns
-unfolding findByHash
+unfolding findByHash findByBucket
 returns c =
     rw (
       ← c .before .before .before .before .bucket-of .ensures,
-      ← c .before .before .before .find-by-bucket .ensures,
-      c .before .bucket-iter .given .1,
+      ← c .before .before .before .fit .ensures,
+      c .before .e .given .1,
     )
 
+-- src/hash.rt:55:11
+first-name-requires : tie.Need-first-name-requires
+first-name-requires c κs = search needs
+
+-- src/hash.rt:64:26
+enum-told : tie.Need-enum-told
+enum-told c = search needs
+
+-- src/hash.rt:67:25
+enum-known-first : tie.Need-enum-known-first
+enum-known-first c = search needs
+
+-- src/hash.rt:67:51
+cursor-at-requires : tie.Need-cursor-at-requires
+cursor-at-requires c κs = search needs
+
+-- src/hash.rt:68:28
+enum-known-e-2 : tie.Need-enum-known-e-2
+enum-known-e-2 c = search needs
+
+-- src/hash.rt:47:1
 returns-2 : tie.Need-returns-2
-unfolding findByHash
+unfolding findByHash findByBucket
 returns-2 c =
     rw (
-      ← c .before .before .before .before .bucket-of .ensures,
-      ← c .before .before .before .find-by-bucket .ensures,
-      c .before .e .given .1,
+      ← c .before .before .before .before .before .before .before .bucket-of .ensures,
+      ← c .before .before .before .before .before .before .fit .ensures,
+      c .before .before .before .before .p .given .1,
+      ← c .before .before .first-name .ensures,
+      c .enum-told .given .1,
+    )
+
+-- src/hash.rt:47:1
+returns-3 : tie.Need-returns-3
+unfolding findByHash findByBucket
+returns-3 c =
+    rw (
+      ← c .before .before .before .before .before .before .before .before .before .bucket-of .ensures,
+      ← c .before .before .before .before .before .before .before .before .fit .ensures,
+      c .before .before .before .before .before .before .p .given .1,
+      ← c .before .before .before .before .first-name .ensures,
+      c .before .before .first .given .1,
+      ← c .cursor-at .ensures,
+    )
+
+-- src/hash.rt:47:1
+returns-4 : tie.Need-returns-4
+unfolding findByHash findByBucket
+returns-4 c =
+    rw (
+      ← c .before .before .before .before .before .before .before .before .bucket-of .ensures,
+      ← c .before .before .before .before .before .before .before .fit .ensures,
+      c .before .before .before .before .before .p .given .1,
+      ← c .before .before .before .first-name .ensures,
+      c .before .e2 .given .1,
     )
 
 pub find-by-hash-spec : {M : Type 1} → statement M
@@ -40,8 +99,15 @@ find-by-hash-spec =
     tie.close
     (tie.spec
     bucket-of-requires
-    find-by-bucket-requires
-    enum-known-bucket-iter
+    fit-requires
+    enum-known-p
     enum-known-e
     returns
-    returns-2)
+    first-name-requires
+    enum-told
+    enum-known-first
+    cursor-at-requires
+    enum-known-e-2
+    returns-2
+    returns-3
+    returns-4)

@@ -1,109 +1,116 @@
--- `index_query::candidates::next_candidate` meets its contract: a step of the hash's cursor gives the next candidate (`next-stored`), and without a hash table the names follow one another.
+-- `index_query::candidates::next_candidate` meets its contract: the next name of the hash's bucket that stores the hash is the next candidate (`next-stored`), and without a hash table the names follow one another.
 -- Assumes nothing.
-use denote.Ref.{now}
-use mathlib.Core.Path.{sym, ap}
-use native.Mathlib.Omega.{arith}
-use Rattle.index_query.proofs.CandidateLaws.{all-step, next-stored, next-below}
 use borrow.Author.Needs.{needs}
-use borrow.Author.Tests.{le-leb, lt-leb}
+use borrow.Author.Tests.{eq-eqb, le-leb, lt-leb, ne-eqb}
+use denote.Ref.{now}
+use native.Mathlib.Omega.{arith}
+use Rattle.hashes.proofs.TableLaws.{hashes-within}
 use Rattle.index_query.specs.Candidates.{candidatesAt}
+use Rattle.index_query.proofs.CandidateLaws.{has-buckets, all-step, next-stored}
 use Rattle.index_query.proofs.candidates.next_candidate.Statement.{statement}
 use Rattle.index_query.proofs.candidates.next_candidate.Tie as tie
+use Rattle.index_query.proofs.candidates.next_candidate.Reads as reads
+use Rattle.index_query.proofs.candidates.next_candidate.Lts as lts
+use Rattle.hashes.proofs.bucket_of.Reads as bucket-of-reads
+use Rattle.hashes.proofs.pass_over.Reads as pass-over-reads
+use Rattle.index.proofs.fit.Reads as fit-reads
 
+-- src/candidates.rt:71:19
 fit-requires : tie.Need-fit-requires
 fit-requires c κs = search needs
 
-enum-told : tie.Need-enum-told
-enum-told c = search needs
+-- src/candidates.rt:72:26
+enum-known-p : tie.Need-enum-known-p
+enum-known-p c = search needs
 
+-- src/candidates.rt:73:28
 enum-known-e : tie.Need-enum-known-e
 enum-known-e c = search needs
 
+-- src/candidates.rt:73:34
 returns : tie.Need-returns
 unfolding candidatesAt
 returns c =
-    rw (← c .before .before .before .fit .ensures, c .before .e .given .1)
+    rw (
+      ← c .before .before .before .fit .ensures,
+      c .before .e .given .1,
+    )
 
+-- src/candidates.rt:77:13
 returns-2 : tie.Need-returns-2
 unfolding candidatesAt
 returns-2 c =
-    let a = c .before .before .before .before .before .before .before .before .args in
+    let a = c .before .before .before .before .before .before .before .before .before .args in
     rw (
-      ← c .before .before .before .before .before .before .fit .ensures,
-      c .before .before .before .before .enum-told .given .1,
+      ← c .before .before .before .before .before .before .before .fit .ensures,
+      c .before .before .before .before .before .p .given .1,
       all-step (a .order) (now (a .section)) (a .index) (a .hash) (a .from) (c .before .before .if1 .taken),
       le-leb _ _ (c .if2 .taken),
     )
 
-add-t14 : tie.Need-add-t14
-add-t14 c = search needs
+-- src/candidates.rt:79:54
+add-t16 : tie.Need-add-t16
+add-t16 c = search needs
 
+-- src/candidates.rt:79:9
 returns-3 : tie.Need-returns-3
 unfolding candidatesAt
 returns-3 c =
-    let a = c .before .before .before .before .before .before .before .before .args in
+    let a = c .before .before .before .before .before .before .before .before .before .args in
     rw (
-      ← c .before .before .before .before .before .before .fit .ensures,
-      c .before .before .before .before .enum-told .given .1,
+      ← c .before .before .before .before .before .before .before .fit .ensures,
+      c .before .before .before .before .before .p .given .1,
       all-step (a .order) (now (a .section)) (a .index) (a .hash) (a .from) (c .before .before .if1 .taken),
       lt-leb _ _ (c .if2 .left),
     )
 
+-- src/candidates.rt:86:9
 bucket-of-requires : tie.Need-bucket-of-requires
 bucket-of-requires c κs = search needs
 
-next-requires : tie.Need-next-requires
-next-requires c κs = search needs
+-- src/candidates.rt:81:11
+pass-over-requires : tie.Need-pass-over-requires
+pass-over-requires c κs =
+    let a = c .before .before .before .before .before .before .before .before .args in
+    let fits = rw (c .before .before .before .before .p .given .1) at (c .before .before .before .before .before .before .fit .ensures) in
+    hashes-within (now (a .section)) (a .index) _ fits (has-buckets (a .order) (now (a .section)) (a .index) (a .hash) (c .before .if1 .left))
 
+-- src/candidates.rt:90:21
 enum-known-name : tie.Need-enum-known-name
 enum-known-name c = search needs
 
-add-t21 : tie.Need-add-t21
-add-t21 c =
-    let gave = rw (c .before .before .name .given .1, c .before .before .before .before .before .bucket-of .ensures) at (c .before .before .before .before .next .ensures) in
-    let below = next-below _ _ _ _ _ (rw (c .before .before .before .before .before .before .before .before .enum-told .given .1) at (c .before .before .before .before .before .before .before .before .before .before .fit .ensures)) (c .before .before .before .before .before .before .if1 .left) _ _ (ap (λ t. t .answer) (sym gave)) in
-    omega arith
+-- src/candidates.rt:91:26
+enum-told : tie.Need-enum-told
+enum-told c = search needs
 
-enum-told-2 : tie.Need-enum-told-2
-enum-told-2 c = search needs
-
-enum-known-e-2 : tie.Need-enum-known-e-2
-enum-known-e-2 c = search needs
-
+-- src/candidates.rt:62:1
 returns-4 : tie.Need-returns-4
 unfolding candidatesAt
 returns-4 c =
+    let a = c .before .before .before .before .before .before .before .before .before .before .before .before .args in
+    let fits = rw (c .before .before .before .before .before .before .before .before .p .given .1) at (c .before .before .before .before .before .before .before .before .before .before .fit .ensures) in
     rw (
       ← c .before .before .before .before .before .before .before .before .before .before .fit .ensures,
-      c .before .before .before .before .before .before .before .before .enum-told .given .1,
-      next-stored _ _ _ _ _ (rw (c .before .before .before .before .before .before .before .before .enum-told .given .1) at (c .before .before .before .before .before .before .before .before .before .before .fit .ensures)) (c .before .before .before .before .before .before .if1 .left) _,
-      ← c .before .before .before .before .before .bucket-of .ensures,
-      ← c .before .before .before .before .next .ensures,
-      c .before .before .name .given .1,
+      c .before .before .before .before .before .before .before .before .p .given .1,
+      next-stored (a .order) (now (a .section)) (a .index) (a .hash) (a .from) (c .before .before .before .before .before .if1 .left) _ fits,
+      ← c .before .before .before .before .bucket-of .ensures,
+      ← c .before .before .before .pass-over .ensures,
+      c .before .name .given .1,
     )
 
+-- src/candidates.rt:62:1
 returns-5 : tie.Need-returns-5
 unfolding candidatesAt
 returns-5 c =
-    rw (
-      ← c .before .before .before .before .before .before .before .before .fit .ensures,
-      c .before .before .before .before .before .before .enum-told .given .1,
-      next-stored _ _ _ _ _ (rw (c .before .before .before .before .before .before .enum-told .given .1) at (c .before .before .before .before .before .before .before .before .fit .ensures)) (c .before .before .before .before .if1 .left) _,
-      ← c .before .before .before .bucket-of .ensures,
-      ← c .before .before .next .ensures,
-      c .enum-told2 .given .1,
-    )
-
-returns-6 : tie.Need-returns-6
-unfolding candidatesAt
-returns-6 c =
+    let a = c .before .before .before .before .before .before .before .before .before .before .before .args in
+    let fits = rw (c .before .before .before .before .before .before .before .p .given .1) at (c .before .before .before .before .before .before .before .before .before .fit .ensures) in
     rw (
       ← c .before .before .before .before .before .before .before .before .before .fit .ensures,
-      c .before .before .before .before .before .before .before .enum-told .given .1,
-      next-stored _ _ _ _ _ (rw (c .before .before .before .before .before .before .before .enum-told .given .1) at (c .before .before .before .before .before .before .before .before .before .fit .ensures)) (c .before .before .before .before .before .if1 .left) _,
-      ← c .before .before .before .before .bucket-of .ensures,
-      ← c .before .before .before .next .ensures,
-      c .before .e2 .given .1,
+      c .before .before .before .before .before .before .before .p .given .1,
+      next-stored (a .order) (now (a .section)) (a .index) (a .hash) (a .from) (c .before .before .before .before .if1 .left) _ fits,
+      ← c .before .before .before .bucket-of .ensures,
+      ← c .before .before .pass-over .ensures,
+      c .enum-told .given .1,
     )
 
 pub next-candidate-spec : {M : Type 1} → statement M
@@ -111,18 +118,15 @@ next-candidate-spec =
     tie.close
     (tie.spec
     fit-requires
-    enum-told
+    enum-known-p
     enum-known-e
     returns
     returns-2
-    add-t14
+    add-t16
     returns-3
     bucket-of-requires
-    next-requires
+    pass-over-requires
     enum-known-name
-    add-t21
-    enum-told-2
-    enum-known-e-2
+    enum-told
     returns-4
-    returns-5
-    returns-6)
+    returns-5)

@@ -1,0 +1,23 @@
+-- `boundary::entry::no_facts` meets its contract: each answer is the definition's, by the calls and the tests that led there.
+-- Assumes nothing.
+use borrow.Author.Needs.{needs}
+use Rattle.boundary.specs.Entry.{noFacts}
+use Rattle.boundary.proofs.entry.no_facts.Statement.{statement}
+use Rattle.boundary.proofs.entry.no_facts.Tie as tie
+use Rattle.boundary.proofs.entry.no_facts.Reads as reads
+use Rattle.boundary.proofs.entry.no_facts.Lts as lts
+use Rattle.boundary.proofs.entry.none.Reads as none-reads
+
+-- src/entry.rt:193:9
+none-requires : tie.Need-none-requires
+none-requires c κs = search needs
+
+-- src/entry.rt:190:1
+returns : tie.Need-returns
+unfolding noFacts
+returns c =
+    rw
+    (← c .none .ensures)
+
+pub no-facts-spec : {M : Type 1} → statement M
+no-facts-spec = tie.close (tie.spec none-requires returns)

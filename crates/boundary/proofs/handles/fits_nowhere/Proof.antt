@@ -1,0 +1,16 @@
+-- `boundary::handles::fits_nowhere` meets its contract: each answer is the definition's, by the calls and the tests that led there.
+-- Assumes nothing.
+use mathlib.Core.Path.{refl}
+use Rattle.boundary.specs.Handles.{misfit}
+use Rattle.boundary.proofs.handles.fits_nowhere.Statement.{statement}
+use Rattle.boundary.proofs.handles.fits_nowhere.Tie as tie
+use Rattle.boundary.proofs.handles.fits_nowhere.Reads as reads
+use Rattle.boundary.proofs.handles.fits_nowhere.Lts as lts
+
+-- src/handles.rt:67:1
+returns : tie.Need-returns
+unfolding misfit
+returns c = refl
+
+pub fits-nowhere-spec : {M : Type 1} → statement M
+fits-nowhere-spec = tie.close (tie.spec returns)

@@ -1,0 +1,16 @@
+-- `boundary::handles::header_for` meets its contract: each answer is the definition's, by the calls and the tests that led there.
+-- Assumes nothing.
+use mathlib.Core.Path.{refl}
+use Rattle.boundary.specs.Handles.{headerFor}
+use Rattle.boundary.proofs.handles.header_for.Statement.{statement}
+use Rattle.boundary.proofs.handles.header_for.Tie as tie
+use Rattle.boundary.proofs.handles.header_for.Reads as reads
+use Rattle.boundary.proofs.handles.header_for.Lts as lts
+
+-- src/handles.rt:116:1
+returns : tie.Need-returns
+unfolding headerFor
+returns c = refl
+
+pub header-for-spec : {M : Type 1} → statement M
+header-for-spec = tie.close (tie.spec returns)

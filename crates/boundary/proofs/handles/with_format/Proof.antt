@@ -1,0 +1,16 @@
+-- `boundary::handles::with_format` meets its contract: each answer is the definition's, by the calls and the tests that led there.
+-- Assumes nothing.
+use mathlib.Core.Path.{refl}
+use Rattle.boundary.specs.Handles.{withFormat}
+use Rattle.boundary.proofs.handles.with_format.Statement.{statement}
+use Rattle.boundary.proofs.handles.with_format.Tie as tie
+use Rattle.boundary.proofs.handles.with_format.Reads as reads
+use Rattle.boundary.proofs.handles.with_format.Lts as lts
+
+-- src/handles.rt:50:1
+returns : tie.Need-returns
+unfolding withFormat
+returns c = refl
+
+pub with-format-spec : {M : Type 1} → statement M
+with-format-spec = tie.close (tie.spec returns)

@@ -1,0 +1,90 @@
+-- `boundary::steps::header_answer` meets its contract: each answer is the definition's, by the calls and the tests that led there.
+-- Assumes nothing.
+use borrow.Author.Needs.{needs}
+use Rattle.boundary.proofs.steps.header_answer.Statement.{statement}
+use Rattle.boundary.proofs.steps.header_answer.Tie as tie
+use Rattle.boundary.proofs.steps.header_answer.Reads as reads
+use Rattle.boundary.proofs.steps.header_answer.Lts as lts
+use Rattle.boundary.proofs.handles.handle_of.Reads as handle-of-reads
+use Rattle.boundary.proofs.steps.no_handle.Reads as no-handle-reads
+use Rattle.reader.proofs.error.Error.number.Reads as number-reads
+use Rattle.reader.proofs.error.Error.value.Reads as value-reads
+
+-- src/steps.rt:101:28
+enum-known-r : tie.Need-enum-known-r
+enum-known-r c = search needs
+
+-- src/steps.rt:108:24
+handle-of-requires : tie.Need-handle-of-requires
+handle-of-requires c κs = search needs
+
+-- src/steps.rt:111:25
+enum-known-r-2 : tie.Need-enum-known-r-2
+enum-known-r-2 c = search needs
+
+-- src/steps.rt:116:20
+no-handle-requires : tie.Need-no-handle-requires
+no-handle-requires c κs = search needs
+
+-- src/steps.rt:118:29
+enum-known-r-3 : tie.Need-enum-known-r-3
+enum-known-r-3 c = search needs
+
+-- src/steps.rt:119:21
+number-requires : tie.Need-number-requires
+number-requires c κs = search needs
+
+-- src/steps.rt:119:21
+cast-t13 : tie.Need-cast-t13
+cast-t13 c = search needs
+
+-- src/steps.rt:121:20
+value-requires : tie.Need-value-requires
+value-requires c κs = search needs
+
+-- src/steps.rt:123:20
+no-handle-requires-2 : tie.Need-no-handle-requires-2
+no-handle-requires-2 c κs = search needs
+
+-- src/steps.rt:97:1
+returns : tie.Need-returns
+returns c =
+    rw (
+      c .before .before .before .r .given .1,
+      ← c .handle-of .ensures,
+    )
+
+-- src/steps.rt:97:1
+returns-2 : tie.Need-returns-2
+returns-2 c =
+    rw (
+      c .before .before .r2 .given .1,
+      ← c .no-handle .ensures,
+    )
+
+-- src/steps.rt:97:1
+returns-3 : tie.Need-returns-3
+returns-3 c =
+    rw (
+      c .before .before .before .before .r3 .given .1,
+      ← c .before .before .number .ensures,
+      ← c .before .value .ensures,
+      ← c .no-handle2 .ensures,
+    )
+
+pub header-answer-spec : {M : Type 1} → statement M
+header-answer-spec =
+    tie.close
+    (tie.spec
+    enum-known-r
+    handle-of-requires
+    enum-known-r-2
+    no-handle-requires
+    enum-known-r-3
+    number-requires
+    cast-t13
+    value-requires
+    no-handle-requires-2
+    returns
+    returns-2
+    returns-3)

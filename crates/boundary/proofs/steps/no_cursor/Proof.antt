@@ -1,0 +1,16 @@
+-- `boundary::steps::no_cursor` meets its contract: each answer is the definition's, by the calls and the tests that led there.
+-- Assumes nothing.
+use mathlib.Core.Path.{refl}
+use Rattle.boundary.specs.Handles.{noCursor}
+use Rattle.boundary.proofs.steps.no_cursor.Statement.{statement}
+use Rattle.boundary.proofs.steps.no_cursor.Tie as tie
+use Rattle.boundary.proofs.steps.no_cursor.Reads as reads
+use Rattle.boundary.proofs.steps.no_cursor.Lts as lts
+
+-- src/steps.rt:85:1
+returns : tie.Need-returns
+unfolding noCursor
+returns c = refl
+
+pub no-cursor-spec : {M : Type 1} → statement M
+no-cursor-spec = tie.close (tie.spec returns)

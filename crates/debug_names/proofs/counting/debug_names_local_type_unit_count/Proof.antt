@@ -1,0 +1,38 @@
+-- `debug_names::counting::debug_names_local_type_unit_count` meets its contract: each answer is the definition's, by the calls and the tests that led there.
+-- Assumes nothing.
+use borrow.Author.Needs.{needs}
+use Rattle.debug_names.proofs.counting.debug_names_local_type_unit_count.Statement.{
+  statement,
+}
+use Rattle.debug_names.proofs.counting.debug_names_local_type_unit_count.Tie as tie
+use Rattle.debug_names.proofs.counting.debug_names_local_type_unit_count.Reads as reads
+use Rattle.debug_names.proofs.counting.debug_names_local_type_unit_count.Lts as lts
+use Rattle.boundary.proofs.count_answer.Reads as count-answer-reads
+use Rattle.boundary.proofs.index_of.Reads as index-of-reads
+use Rattle.names.proofs.local_type_unit_count.Reads as local-type-unit-count-reads
+
+-- src/counting.rt:32:49
+index-of-requires : tie.Need-index-of-requires
+index-of-requires c κs = search needs
+
+-- src/counting.rt:32:18
+local-type-unit-count-requires : tie.Need-local-type-unit-count-requires
+local-type-unit-count-requires c κs = search needs
+
+-- src/counting.rt:32:5
+count-answer-requires : tie.Need-count-answer-requires
+count-answer-requires c κs = search needs
+
+-- src/counting.rt:28:1
+returns : tie.Need-returns
+returns c =
+    rw (
+      ← c .before .before .index-of .ensures,
+      ← c .before .local-type-unit-count .ensures,
+      ← c .count-answer .ensures,
+    )
+
+pub debug-names-local-type-unit-count-spec : {M : Type 1} → statement M
+debug-names-local-type-unit-count-spec =
+    tie.close
+    (tie.spec index-of-requires local-type-unit-count-requires count-answer-requires returns)

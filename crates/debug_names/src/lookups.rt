@@ -1,0 +1,91 @@
+// The hash table: lookups by bucket and by hash, their steps, and the table check (document 01, "Buckets and hashes").
+ghost use mathlib.Core.Path.{_≡_};
+ghost use Rattle.hashes.specs.Lookups.{bucketCursor, findByBucket, findByHash, bucketStep, hashStep};
+ghost use Rattle.tables.specs.Check.{tableCheck};
+ghost use Rattle.boundary.specs.Handles.{orderOf, indexFrom, iterFrom};
+ghost use Rattle.boundary.specs.Answers.{handed, bucketAnswer, checkAnswer};
+ghost use Rattle.boundary.specs.Steps.{bucketStepAnswer, hashAnswer, hashStepAnswer};
+use boundary::Answer;
+use boundary::BucketAnswer;
+use boundary::HashAnswer;
+use boundary::HashCursor;
+use boundary::IndexHandle;
+use boundary::bucket_answer;
+use boundary::bucket_step_answer;
+use boundary::check_answer;
+use boundary::hash_answer;
+use boundary::hash_step_answer;
+use boundary::index_of;
+use boundary::iter_of;
+use boundary::order_of;
+use hashes::NameBucketIter;
+use hashes::find_by_bucket;
+use hashes::find_by_hash;
+use reader::NameTableIndex;
+use tables::check_table;
+
+// The first name of a bucket, or none.
+#[no_mangle]
+pub extern "C" fn debug_names_find_by_bucket(
+    order: u32,
+    section: &[u8],
+    index: IndexHandle,
+    bucket: u32,
+) -> Answer
+    ensures { λ r. ⌜ r ≡ handed bucketAnswer (findByBucket (orderOf order) (now (section .entry)) (indexFrom index) bucket) ⌝ }
+{
+    bucket_answer(find_by_bucket(order_of(order), section, index_of(index), bucket))
+}
+
+// The next name of a bucket, from a name on.
+#[no_mangle]
+pub extern "C" fn debug_names_next_in_bucket(
+    order: u32,
+    section: &[u8],
+    index: IndexHandle,
+    bucket: u32,
+    name: u32,
+) -> BucketAnswer
+    ensures { λ r. ⌜ r ≡ bucketStepAnswer (bucketStep (orderOf order) (now (section .entry)) (indexFrom index) (bucketCursor bucket name)) ⌝ }
+{
+    let cursor = NameBucketIter {
+        name_table_index: NameTableIndex(name),
+        bucket_index: bucket,
+    };
+    bucket_step_answer(cursor.next(order_of(order), section, index_of(index)))
+}
+
+// The cursor over the names that store a hash.
+#[no_mangle]
+pub extern "C" fn debug_names_find_by_hash(
+    order: u32,
+    section: &[u8],
+    index: IndexHandle,
+    hash: u32,
+) -> HashAnswer
+    ensures { λ r. ⌜ r ≡ hashAnswer (findByHash (orderOf order) (now (section .entry)) (indexFrom index) hash) ⌝ }
+{
+    hash_answer(find_by_hash(order_of(order), section, index_of(index), hash))
+}
+
+// The next name that stores the hash.
+#[no_mangle]
+pub extern "C" fn debug_names_next_by_hash(
+    order: u32,
+    section: &[u8],
+    index: IndexHandle,
+    cursor: HashCursor,
+) -> HashAnswer
+    ensures { λ r. ⌜ r ≡ hashStepAnswer (hashStep (orderOf order) (now (section .entry)) (indexFrom index) (iterFrom cursor)) ⌝ }
+{
+    let at = iter_of(cursor);
+    hash_step_answer(at.next(order_of(order), section, index_of(index)))
+}
+
+// Whether lookups by hash list every name.
+#[no_mangle]
+pub extern "C" fn debug_names_check_table(order: u32, section: &[u8], index: IndexHandle) -> Answer
+    ensures { λ r. ⌜ r ≡ handed checkAnswer (tableCheck (orderOf order) (now (section .entry)) (indexFrom index)) ⌝ }
+{
+    check_answer(check_table(order_of(order), section, index_of(index)))
+}
