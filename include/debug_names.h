@@ -14,6 +14,7 @@
  * - An answer is a struct by value: `status` is 0, or the number of the refusal; `kind` says what is answered; `value` is the
  *   answer's number, or, where the call is refused, the one value that the refusal carries (0 where it carries none). Where a
  *   call is refused, or answers an end or none, every field that its comment does not name is 0.
+ * - A step answers the cursor after it, also where it is refused; after 13 and 14 that is the cursor as it was.
  *
  * A place is a byte offset from the section's start; a handle of an entry is its offset from the start of its index's entry pool. The
  * structs are those of x86-64. */
@@ -157,7 +158,8 @@ typedef struct {
     uint32_t next;
 } debug_names_bucket_step;
 
-/* A cursor over the names that store a hash: the name to examine next, in a bucket. Where `has_bucket` is 0 there are none. */
+/* A cursor over the names that store a hash: the name to examine next, in a bucket. Where `has_bucket` is 0 there are none, and in an
+ * answer bucket and name are then 0; else it is 1 in an answer. */
 typedef struct {
     uint32_t hash;
     uint32_t has_bucket;
@@ -166,7 +168,7 @@ typedef struct {
 } debug_names_hash_cursor;
 
 /* A lookup by hash, or a step of it: kind 0 is the end, 1 is the name of number `value` (of the lookup itself: `value` is 0). `next` is
- * the cursor after it. */
+ * the cursor after it; a refused lookup has none, and all its numbers are 0. */
 typedef struct {
     uint32_t status;
     uint32_t kind;
@@ -219,8 +221,7 @@ _Static_assert(sizeof(debug_names_index) == 48, "an index has 48 bytes on x86-64
 
 /* ---- Opening a section */
 
-/* The next header, from the cursor `at`; the first cursor is 0. After a refusal the next step is the end; 13 and 14 leave the
- * cursor as it was. */
+/* The next header, from the cursor `at`; the first cursor is 0. After a refusal the next step is the end. */
 debug_names_header_step debug_names_next_header(uint32_t order, const uint8_t *section, size_t section_len, size_t at);
 
 /* What else the header at a place says; refused, and at the section's end none, as that step is. */

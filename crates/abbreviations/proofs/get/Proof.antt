@@ -10,10 +10,6 @@ use Rattle.abbreviations.proofs.AbbreviationLaws.{found-step, declared-
 use Rattle.reader.specs.Parts.{leftAt}
 use Rattle.abbreviations.proofs.get.Statement.{statement}
 use Rattle.abbreviations.proofs.get.Tie as tie
-use Rattle.abbreviations.proofs.get.Reads as reads
-use Rattle.abbreviations.proofs.get.Lts as lts
-use Rattle.abbreviations.proofs.read_head.Reads as read-head-reads
-use Rattle.abbreviations.proofs.skip_attributes.Reads as skip-attributes-reads
 
 abbrev Inv-loop : tie.InvT-loop
 Inv-loop s at end code place₀ place = found code s at end ≡ found code s place end
@@ -21,23 +17,18 @@ Inv-loop s at end code place₀ place = found code s at end ≡ found code s pla
 abbrev μ-loop : tie.MeasureT-loop
 μ-loop s at end code place₀ place = leftAt s place end
 
--- src/lib.rt:259:5
 loop-holds : tie.Need-loop-holds Inv-loop μ-loop
 loop-holds c = refl
 
--- src/lib.rt:260:26
 read-head-requires : tie.Need-read-head-requires Inv-loop μ-loop
 read-head-requires c κs = search needs
 
--- src/lib.rt:261:29
 enum-known-h : tie.Need-enum-known-h Inv-loop μ-loop
 enum-known-h c = search needs
 
--- src/lib.rt:262:61
 enum-told : tie.Need-enum-told Inv-loop μ-loop
 enum-told c = search needs
 
--- src/lib.rt:262:30
 returns : tie.Need-returns Inv-loop μ-loop
 unfolding withEnd
 returns c =
@@ -49,11 +40,9 @@ returns c =
       c .enum-told .given .1,
     )
 
--- src/lib.rt:263:31
 enum-known-e : tie.Need-enum-known-e Inv-loop μ-loop
 enum-known-e c = search needs
 
--- src/lib.rt:263:37
 returns-2 : tie.Need-returns-2 Inv-loop μ-loop
 unfolding withEnd
 returns-2 c =
@@ -65,19 +54,15 @@ returns-2 c =
       c .before .e .given .1,
     )
 
--- src/lib.rt:265:26
 skip-attributes-requires : tie.Need-skip-attributes-requires Inv-loop μ-loop
 skip-attributes-requires c κs = search needs
 
--- src/lib.rt:266:25
 enum-known-past : tie.Need-enum-known-past Inv-loop μ-loop
 enum-known-past c = search needs
 
--- src/lib.rt:267:30
 enum-known-e-2 : tie.Need-enum-known-e-2 Inv-loop μ-loop
 enum-known-e-2 c = search needs
 
--- src/lib.rt:267:36
 returns-3 : tie.Need-returns-3 Inv-loop μ-loop
 unfolding withEnd
 returns-3 c =
@@ -91,7 +76,6 @@ returns-3 c =
       c .before .e2 .given .1,
     )
 
--- src/lib.rt:270:13
 returns-4 : tie.Need-returns-4 Inv-loop μ-loop
 unfolding withEnd
 returns-4 c =
@@ -106,7 +90,6 @@ returns-4 c =
       eq-eqb _ _ (c .if1 .taken),
     )
 
--- src/lib.rt:259:5
 loop-less : tie.Need-loop-less Inv-loop μ-loop
 loop-less c =
     let a = c .before .before .before .before .before .before .before .before .before .before .before .before .args in
@@ -115,7 +98,6 @@ loop-less c =
     let skipped = rw (c .before .before .before .past .given .1) at (c .before .before .before .before .before .skip-attributes .ensures) in
     omega (arith, parts-forward (now (a .s)) (l .place) (a .end) _ _ (sym read) (sym skipped))
 
--- src/lib.rt:259:5
 loop-again : tie.Need-loop-again Inv-loop μ-loop
 unfolding withEnd
 loop-again c =

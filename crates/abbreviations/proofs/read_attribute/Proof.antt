@@ -8,30 +8,21 @@ use mathlib.Core.Path.{_∙_}
 use Rattle.abbreviations.proofs.AbbreviationLaws.{short-place, pair-short}
 use Rattle.abbreviations.proofs.read_attribute.Statement.{statement}
 use Rattle.abbreviations.proofs.read_attribute.Tie as tie
-use Rattle.abbreviations.proofs.read_attribute.Reads as reads
-use Rattle.abbreviations.proofs.read_attribute.Lts as lts
-use Rattle.abbreviations.proofs.long_attribute.Reads as long-attribute-reads
-use Rattle.abbreviations.proofs.short_pair.Reads as short-pair-reads
 
--- src/lib.rt:143:9
 short-pair-requires : tie.Need-short-pair-requires
 short-pair-requires c κs = search needs
 
--- src/lib.rt:145:9
 long-attribute-requires : tie.Need-long-attribute-requires
 long-attribute-requires c κs = search needs
 
--- src/lib.rt:145:9
 returns : tie.Need-returns
 returns c = search needs
 
--- src/lib.rt:150:15
 add-t8 : tie.Need-add-t8
 add-t8 c =
     let a = c .before .before .before .args in
     omega (arith, short-place (now (a .s)) (a .at) (a .end) λ e. c .if1 .left (c .before .short-pair .ensures ∙ e))
 
--- src/lib.rt:140:1
 returns-2 : tie.Need-returns-2
 returns-2 c =
     let a = c .before .before .before .args in

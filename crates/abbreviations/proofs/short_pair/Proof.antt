@@ -5,23 +5,16 @@ use borrow.Author.Tests.{eq-eqb, le-ltb, lt-ltb, ne-eqb}
 use Rattle.abbreviations.specs.Abbreviations.{shortPair}
 use Rattle.abbreviations.proofs.short_pair.Statement.{statement}
 use Rattle.abbreviations.proofs.short_pair.Tie as tie
-use Rattle.abbreviations.proofs.short_pair.Reads as reads
-use Rattle.abbreviations.proofs.short_pair.Lts as lts
-use Rattle.reader.proofs.read_u8.Reads as read-u8-reads
 
--- src/lib.rt:84:19
 read-u8-requires : tie.Need-read-u8-requires
 read-u8-requires c κs = search needs
 
--- src/lib.rt:85:23
 enum-known-r : tie.Need-enum-known-r
 enum-known-r c = search needs
 
--- src/lib.rt:86:31
 enum-told : tie.Need-enum-told
 enum-told c = search needs
 
--- src/lib.rt:86:31
 returns : tie.Need-returns
 unfolding shortPair
 returns c =
@@ -30,19 +23,15 @@ returns c =
       c .enum-told .given .1,
     )
 
--- src/lib.rt:88:19
 read-u8-requires-2 : tie.Need-read-u8-requires-2
 read-u8-requires-2 c κs = search needs
 
--- src/lib.rt:89:23
 enum-known-r-2 : tie.Need-enum-known-r-2
 enum-known-r-2 c = search needs
 
--- src/lib.rt:90:31
 enum-told-2 : tie.Need-enum-told-2
 enum-told-2 c = search needs
 
--- src/lib.rt:90:31
 returns-2 : tie.Need-returns-2
 unfolding shortPair
 returns-2 c =
@@ -53,7 +42,6 @@ returns-2 c =
       c .enum-told2 .given .1,
     )
 
--- src/lib.rt:93:9
 returns-3 : tie.Need-returns-3
 unfolding shortPair
 returns-3 c =
@@ -65,7 +53,6 @@ returns-3 c =
       lt-ltb _ _ (c .if1 .taken),
     )
 
--- src/lib.rt:96:9
 returns-4 : tie.Need-returns-4
 unfolding shortPair
 returns-4 c =
@@ -78,7 +65,6 @@ returns-4 c =
       lt-ltb _ _ (c .if2 .taken),
     )
 
--- src/lib.rt:100:13
 returns-5 : tie.Need-returns-5
 unfolding shortPair
 returns-5 c =
@@ -95,7 +81,6 @@ returns-5 c =
       c .if4 .taken,
     )
 
--- src/lib.rt:102:9
 returns-6 : tie.Need-returns-6
 unfolding shortPair
 returns-6 c =
@@ -110,7 +95,6 @@ returns-6 c =
       ne-eqb _ _ (c .if4 .left),
     )
 
--- src/lib.rt:105:9
 returns-7 : tie.Need-returns-7
 unfolding shortPair
 returns-7 c =
@@ -125,23 +109,18 @@ returns-7 c =
       eq-eqb _ _ (c .if5 .taken),
     )
 
--- src/lib.rt:107:6
 cast-result : tie.Need-cast-result
 cast-result c = search needs
 
--- src/lib.rt:107:31
 cast-result-2 : tie.Need-cast-result-2
 cast-result-2 c = search needs
 
--- src/lib.rt:107:24
 mul-result : tie.Need-mul-result
 mul-result c = search needs
 
--- src/lib.rt:107:5
 add-result : tie.Need-add-result
 add-result c = search needs
 
--- src/lib.rt:81:1
 returns-8 : tie.Need-returns-8
 unfolding shortPair
 returns-8 c =

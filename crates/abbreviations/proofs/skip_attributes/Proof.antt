@@ -10,10 +10,6 @@ use Rattle.abbreviations.specs.Abbreviations.{attributesEnd}
 use Rattle.abbreviations.proofs.AbbreviationLaws.{attributes-end-step, pair-forward, short-place, pairs-on, pairs-last}
 use Rattle.abbreviations.proofs.skip_attributes.Statement.{statement}
 use Rattle.abbreviations.proofs.skip_attributes.Tie as tie
-use Rattle.abbreviations.proofs.skip_attributes.Reads as reads
-use Rattle.abbreviations.proofs.skip_attributes.Lts as lts
-use Rattle.abbreviations.proofs.long_attribute.Reads as long-attribute-reads
-use Rattle.abbreviations.proofs.short_pair.Reads as short-pair-reads
 
 abbrev Inv-loop : tie.InvT-loop
 Inv-loop s at end place₀ place = attributesEnd s at end ≡ attributesEnd s place end
@@ -21,15 +17,12 @@ Inv-loop s at end place₀ place = attributesEnd s at end ≡ attributesEnd s pl
 abbrev μ-loop : tie.MeasureT-loop
 μ-loop s at end place₀ place = leftAt s place end
 
--- src/lib.rt:159:5
 loop-holds : tie.Need-loop-holds Inv-loop μ-loop
 loop-holds c = refl
 
--- src/lib.rt:160:13
 short-pair-requires : tie.Need-short-pair-requires Inv-loop μ-loop
 short-pair-requires c κs = search needs
 
--- src/lib.rt:162:32
 add-t10 : tie.Need-add-t10 Inv-loop μ-loop
 add-t10 c =
     let a = c .before .before .before .before .args in
@@ -37,7 +30,6 @@ add-t10 c =
     let same = c .before .short-pair .ensures in
     omega (arith, short-place (now (a .s)) (l .place) (a .end) λ e. omega (arith, same, c .if1 .taken, e))
 
--- src/lib.rt:162:13
 returns : tie.Need-returns Inv-loop μ-loop
 returns c =
     let a = c .before .before .before .before .args in
@@ -45,19 +37,15 @@ returns c =
     let same = c .before .short-pair .ensures in
     rw (l .inv, pairs-last (now (a .s)) (l .place) (a .end) (sym same ∙ c .if1 .taken))
 
--- src/lib.rt:165:27
 long-attribute-requires : tie.Need-long-attribute-requires Inv-loop μ-loop
 long-attribute-requires c κs = search needs
 
--- src/lib.rt:166:38
 enum-known-r : tie.Need-enum-known-r Inv-loop μ-loop
 enum-known-r c = search needs
 
--- src/lib.rt:167:40
 enum-known-e : tie.Need-enum-known-e Inv-loop μ-loop
 enum-known-e c = search needs
 
--- src/lib.rt:167:46
 returns-2 : tie.Need-returns-2 Inv-loop μ-loop
 returns-2 c =
     rw (
@@ -67,7 +55,6 @@ returns-2 c =
       c .before .e .given .1,
     )
 
--- src/lib.rt:170:17
 returns-3 : tie.Need-returns-3 Inv-loop μ-loop
 returns-3 c =
     rw (
@@ -78,7 +65,6 @@ returns-3 c =
       eq-eqb _ _ (c .if3 .taken),
     )
 
--- src/lib.rt:159:5
 loop-less : tie.Need-loop-less Inv-loop μ-loop
 loop-less c =
     let a = c .before .before .before .before .before .before .before .before .before .before .before .args in
@@ -86,7 +72,6 @@ loop-less c =
     let read = rw (c .before .before .before .r .given .1) at (c .before .before .before .before .before .long-attribute .ensures) in
     omega (arith, pair-forward (now (a .s)) (l .place) (a .end) _ (sym read))
 
--- src/lib.rt:159:5
 loop-again : tie.Need-loop-again Inv-loop μ-loop
 loop-again c =
     rw (
@@ -97,7 +82,6 @@ loop-again c =
       ne-eqb _ _ (c .if3 .left),
     )
 
--- src/lib.rt:174:21
 add-place : tie.Need-add-place Inv-loop μ-loop
 add-place c =
     let a = c .before .before .before .before .before .args in
@@ -105,7 +89,6 @@ add-place c =
     let same = c .before .before .short-pair .ensures in
     omega (arith, short-place (now (a .s)) (l .place) (a .end) λ e. c .if2 .left (same ∙ e))
 
--- src/lib.rt:159:5
 loop-less-2 : tie.Need-loop-less-2 Inv-loop μ-loop
 loop-less-2 c =
     let a = c .before .before .before .before .before .args in
@@ -113,7 +96,6 @@ loop-less-2 c =
     let same = c .before .before .short-pair .ensures in
     omega (arith, short-place (now (a .s)) (l .place) (a .end) λ e. c .if2 .left (same ∙ e))
 
--- src/lib.rt:159:5
 loop-again-2 : tie.Need-loop-again-2 Inv-loop μ-loop
 loop-again-2 c =
     let a = c .before .before .before .before .before .args in

@@ -3,23 +3,16 @@
 use borrow.Author.Needs.{needs}
 use Rattle.boundary.proofs.answers.bucket_answer.Statement.{statement}
 use Rattle.boundary.proofs.answers.bucket_answer.Tie as tie
-use Rattle.boundary.proofs.answers.bucket_answer.Reads as reads
-use Rattle.boundary.proofs.answers.bucket_answer.Lts as lts
-use Rattle.boundary.proofs.answers.refused.Reads as refused-reads
 
--- src/answers.rt:180:27
 enum-known-r : tie.Need-enum-known-r
 enum-known-r c = search needs
 
--- src/answers.rt:181:29
 enum-known-r-2 : tie.Need-enum-known-r-2
 enum-known-r-2 c = search needs
 
--- src/answers.rt:181:35
 refused-requires : tie.Need-refused-requires
 refused-requires c κs = search needs
 
--- src/answers.rt:181:35
 returns : tie.Need-returns
 returns c =
     rw (
@@ -27,19 +20,15 @@ returns c =
       ← c .refused .ensures,
     )
 
--- src/answers.rt:184:26
 enum-known-found : tie.Need-enum-known-found
 enum-known-found c = search needs
 
--- src/answers.rt:189:24
 cast-t9 : tie.Need-cast-t9
 cast-t9 c = search needs
 
--- src/answers.rt:192:29
 enum-told : tie.Need-enum-told
 enum-told c = search needs
 
--- src/answers.rt:176:1
 returns-2 : tie.Need-returns-2
 returns-2 c =
     rw (
@@ -47,7 +36,6 @@ returns-2 c =
       c .before .before .before .found .given .1,
     )
 
--- src/answers.rt:176:1
 returns-3 : tie.Need-returns-3
 returns-3 c =
     rw (

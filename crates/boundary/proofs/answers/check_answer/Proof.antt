@@ -3,53 +3,40 @@
 use borrow.Author.Needs.{needs}
 use Rattle.boundary.proofs.answers.check_answer.Statement.{statement}
 use Rattle.boundary.proofs.answers.check_answer.Tie as tie
-use Rattle.boundary.proofs.answers.check_answer.Reads as reads
-use Rattle.boundary.proofs.answers.check_answer.Lts as lts
-use Rattle.boundary.proofs.answers.refused.Reads as refused-reads
 
--- src/answers.rt:205:32
 enum-told : tie.Need-enum-told
 enum-told c = search needs
 
--- src/answers.rt:210:33
 enum-told-2 : tie.Need-enum-told-2
 enum-told-2 c = search needs
 
--- src/answers.rt:215:32
 enum-known-r : tie.Need-enum-known-r
 enum-known-r c = search needs
 
--- src/answers.rt:218:20
 cast-t5 : tie.Need-cast-t5
 cast-t5 c = search needs
 
--- src/answers.rt:220:29
 enum-known-r-2 : tie.Need-enum-known-r-2
 enum-known-r-2 c = search needs
 
--- src/answers.rt:220:35
 refused-requires : tie.Need-refused-requires
 refused-requires c κs = search needs
 
--- src/answers.rt:201:1
 returns : tie.Need-returns
 returns c =
     rw
     (c .enum-told .given .1)
 
--- src/answers.rt:201:1
 returns-2 : tie.Need-returns-2
 returns-2 c =
     rw
     (c .enum-told2 .given .1)
 
--- src/answers.rt:201:1
 returns-3 : tie.Need-returns-3
 returns-3 c =
     rw
     (c .before .before .r .given .1)
 
--- src/answers.rt:201:1
 returns-4 : tie.Need-returns-4
 returns-4 c =
     rw (

@@ -3,33 +3,24 @@
 use borrow.Author.Needs.{needs}
 use Rattle.boundary.proofs.answers.count_answer.Statement.{statement}
 use Rattle.boundary.proofs.answers.count_answer.Tie as tie
-use Rattle.boundary.proofs.answers.count_answer.Reads as reads
-use Rattle.boundary.proofs.answers.count_answer.Lts as lts
-use Rattle.boundary.proofs.answers.refused.Reads as refused-reads
 
--- src/answers.rt:66:26
 enum-known-r : tie.Need-enum-known-r
 enum-known-r c = search needs
 
--- src/answers.rt:69:20
 cast-t5 : tie.Need-cast-t5
 cast-t5 c = search needs
 
--- src/answers.rt:71:28
 enum-known-r-2 : tie.Need-enum-known-r-2
 enum-known-r-2 c = search needs
 
--- src/answers.rt:71:34
 refused-requires : tie.Need-refused-requires
 refused-requires c κs = search needs
 
--- src/answers.rt:62:1
 returns : tie.Need-returns
 returns c =
     rw
     (c .before .r .given .1)
 
--- src/answers.rt:62:1
 returns-2 : tie.Need-returns-2
 returns-2 c =
     rw (

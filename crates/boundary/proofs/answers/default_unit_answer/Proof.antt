@@ -3,23 +3,16 @@
 use borrow.Author.Needs.{needs}
 use Rattle.boundary.proofs.answers.default_unit_answer.Statement.{statement}
 use Rattle.boundary.proofs.answers.default_unit_answer.Tie as tie
-use Rattle.boundary.proofs.answers.default_unit_answer.Reads as reads
-use Rattle.boundary.proofs.answers.default_unit_answer.Lts as lts
-use Rattle.boundary.proofs.answers.refused.Reads as refused-reads
 
--- src/answers.rt:144:32
 enum-known-r : tie.Need-enum-known-r
 enum-known-r c = search needs
 
--- src/answers.rt:145:34
 enum-known-r-2 : tie.Need-enum-known-r-2
 enum-known-r-2 c = search needs
 
--- src/answers.rt:145:40
 refused-requires : tie.Need-refused-requires
 refused-requires c κs = search needs
 
--- src/answers.rt:145:40
 returns : tie.Need-returns
 returns c =
     rw (
@@ -27,15 +20,12 @@ returns c =
       ← c .refused .ensures,
     )
 
--- src/answers.rt:148:27
 enum-known-unit : tie.Need-enum-known-unit
 enum-known-unit c = search needs
 
--- src/answers.rt:153:30
 enum-told : tie.Need-enum-told
 enum-told c = search needs
 
--- src/answers.rt:140:1
 returns-2 : tie.Need-returns-2
 returns-2 c =
     rw (
@@ -43,7 +33,6 @@ returns-2 c =
       c .before .unit .given .1,
     )
 
--- src/answers.rt:140:1
 returns-3 : tie.Need-returns-3
 returns-3 c =
     rw (

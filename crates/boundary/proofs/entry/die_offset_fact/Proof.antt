@@ -3,24 +3,16 @@
 use borrow.Author.Needs.{needs}
 use Rattle.boundary.proofs.entry.die_offset_fact.Statement.{statement}
 use Rattle.boundary.proofs.entry.die_offset_fact.Tie as tie
-use Rattle.boundary.proofs.entry.die_offset_fact.Reads as reads
-use Rattle.boundary.proofs.entry.die_offset_fact.Lts as lts
-use Rattle.boundary.proofs.answers.refused.Reads as refused-reads
-use Rattle.boundary.proofs.entry.none.Reads as none-reads
 
--- src/entry.rt:112:30
 enum-known-r : tie.Need-enum-known-r
 enum-known-r c = search needs
 
--- src/entry.rt:113:32
 enum-known-r-2 : tie.Need-enum-known-r-2
 enum-known-r-2 c = search needs
 
--- src/entry.rt:113:38
 refused-requires : tie.Need-refused-requires
 refused-requires c κs = search needs
 
--- src/entry.rt:113:38
 returns : tie.Need-returns
 returns c =
     rw (
@@ -28,19 +20,15 @@ returns c =
       ← c .refused .ensures,
     )
 
--- src/entry.rt:116:25
 enum-known-die : tie.Need-enum-known-die
 enum-known-die c = search needs
 
--- src/entry.rt:121:28
 enum-told : tie.Need-enum-told
 enum-told c = search needs
 
--- src/entry.rt:121:28
 none-requires : tie.Need-none-requires
 none-requires c κs = search needs
 
--- src/entry.rt:108:1
 returns-2 : tie.Need-returns-2
 returns-2 c =
     rw (
@@ -48,7 +36,6 @@ returns-2 c =
       c .before .die .given .1,
     )
 
--- src/entry.rt:108:1
 returns-3 : tie.Need-returns-3
 returns-3 c = search needs
 

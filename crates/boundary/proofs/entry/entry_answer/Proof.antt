@@ -4,32 +4,22 @@ use borrow.Author.Needs.{needs}
 use Rattle.boundary.specs.Entry.{wholeAnswer}
 use Rattle.boundary.proofs.entry.entry_answer.Statement.{statement}
 use Rattle.boundary.proofs.entry.entry_answer.Tie as tie
-use Rattle.boundary.proofs.entry.entry_answer.Reads as reads
-use Rattle.boundary.proofs.entry.entry_answer.Lts as lts
-use Rattle.boundary.proofs.entry.facts_of.Reads as facts-of-reads
-use Rattle.boundary.proofs.entry.refused_entry.Reads as refused-entry-reads
 
--- src/entry.rt:241:26
 enum-known-r : tie.Need-enum-known-r
 enum-known-r c = search needs
 
--- src/entry.rt:249:24
 facts-of-requires : tie.Need-facts-of-requires
 facts-of-requires c κs = search needs
 
--- src/entry.rt:250:22
 cast-t12 : tie.Need-cast-t12
 cast-t12 c = search needs
 
--- src/entry.rt:253:28
 enum-known-r-2 : tie.Need-enum-known-r-2
 enum-known-r-2 c = search needs
 
--- src/entry.rt:253:34
 refused-entry-requires : tie.Need-refused-entry-requires
 refused-entry-requires c κs = search needs
 
--- src/entry.rt:231:1
 returns : tie.Need-returns
 unfolding wholeAnswer
 returns c =
@@ -38,7 +28,6 @@ returns c =
       ← c .before .facts-of .ensures,
     )
 
--- src/entry.rt:231:1
 returns-2 : tie.Need-returns-2
 unfolding wholeAnswer
 returns-2 c =

@@ -4,41 +4,28 @@ use borrow.Author.Needs.{needs}
 use Rattle.boundary.specs.Entry.{wholeStepAnswer}
 use Rattle.boundary.proofs.entry.entry_step_answer.Statement.{statement}
 use Rattle.boundary.proofs.entry.entry_step_answer.Tie as tie
-use Rattle.boundary.proofs.entry.entry_step_answer.Reads as reads
-use Rattle.boundary.proofs.entry.entry_step_answer.Lts as lts
-use Rattle.boundary.proofs.entry.facts_of.Reads as facts-of-reads
-use Rattle.boundary.proofs.entry.no_facts.Reads as no-facts-reads
-use Rattle.boundary.proofs.entry.refused_entry.Reads as refused-entry-reads
 
--- src/entry.rt:267:31
 enum-known-r : tie.Need-enum-known-r
 enum-known-r c = search needs
 
--- src/entry.rt:275:24
 facts-of-requires : tie.Need-facts-of-requires
 facts-of-requires c κs = search needs
 
--- src/entry.rt:276:22
 cast-t15 : tie.Need-cast-t15
 cast-t15 c = search needs
 
--- src/entry.rt:279:29
 enum-known-r-2 : tie.Need-enum-known-r-2
 enum-known-r-2 c = search needs
 
--- src/entry.rt:285:20
 no-facts-requires : tie.Need-no-facts-requires
 no-facts-requires c κs = search needs
 
--- src/entry.rt:288:33
 enum-known-r-3 : tie.Need-enum-known-r-3
 enum-known-r-3 c = search needs
 
--- src/entry.rt:288:46
 refused-entry-requires : tie.Need-refused-entry-requires
 refused-entry-requires c κs = search needs
 
--- src/entry.rt:258:1
 returns : tie.Need-returns
 unfolding wholeStepAnswer
 returns c =
@@ -47,7 +34,6 @@ returns c =
       ← c .before .facts-of .ensures,
     )
 
--- src/entry.rt:258:1
 returns-2 : tie.Need-returns-2
 unfolding wholeStepAnswer
 returns-2 c =
@@ -56,7 +42,6 @@ returns-2 c =
       ← c .no-facts .ensures,
     )
 
--- src/entry.rt:258:1
 returns-3 : tie.Need-returns-3
 unfolding wholeStepAnswer
 returns-3 c =

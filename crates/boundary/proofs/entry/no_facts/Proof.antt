@@ -4,15 +4,10 @@ use borrow.Author.Needs.{needs}
 use Rattle.boundary.specs.Entry.{noFacts}
 use Rattle.boundary.proofs.entry.no_facts.Statement.{statement}
 use Rattle.boundary.proofs.entry.no_facts.Tie as tie
-use Rattle.boundary.proofs.entry.no_facts.Reads as reads
-use Rattle.boundary.proofs.entry.no_facts.Lts as lts
-use Rattle.boundary.proofs.entry.none.Reads as none-reads
 
--- src/entry.rt:193:9
 none-requires : tie.Need-none-requires
 none-requires c κs = search needs
 
--- src/entry.rt:190:1
 returns : tie.Need-returns
 unfolding noFacts
 returns c =

@@ -4,15 +4,10 @@ use borrow.Author.Needs.{needs}
 use Rattle.boundary.specs.Entry.{refusedFacts}
 use Rattle.boundary.proofs.entry.refused_facts.Statement.{statement}
 use Rattle.boundary.proofs.entry.refused_facts.Tie as tie
-use Rattle.boundary.proofs.entry.refused_facts.Reads as reads
-use Rattle.boundary.proofs.entry.refused_facts.Lts as lts
-use Rattle.boundary.proofs.answers.refused.Reads as refused-reads
 
--- src/entry.rt:205:9
 refused-requires : tie.Need-refused-requires
 refused-requires c κs = search needs
 
--- src/entry.rt:202:1
 returns : tie.Need-returns
 unfolding refusedFacts
 returns c =

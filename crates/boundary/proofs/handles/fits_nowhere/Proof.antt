@@ -4,10 +4,7 @@ use mathlib.Core.Path.{refl}
 use Rattle.boundary.specs.Handles.{misfit}
 use Rattle.boundary.proofs.handles.fits_nowhere.Statement.{statement}
 use Rattle.boundary.proofs.handles.fits_nowhere.Tie as tie
-use Rattle.boundary.proofs.handles.fits_nowhere.Reads as reads
-use Rattle.boundary.proofs.handles.fits_nowhere.Lts as lts
 
--- src/handles.rt:67:1
 returns : tie.Need-returns
 unfolding misfit
 returns c = refl

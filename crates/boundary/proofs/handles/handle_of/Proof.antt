@@ -4,19 +4,13 @@ use borrow.Author.Needs.{needs}
 use Rattle.boundary.specs.Handles.{handleOf}
 use Rattle.boundary.proofs.handles.handle_of.Statement.{statement}
 use Rattle.boundary.proofs.handles.handle_of.Tie as tie
-use Rattle.boundary.proofs.handles.handle_of.Reads as reads
-use Rattle.boundary.proofs.handles.handle_of.Lts as lts
-use Rattle.reader.proofs.common.Format.word_size.Reads as word-size-reads
 
--- src/handles.rt:105:17
 word-size-requires : tie.Need-word-size-requires
 word-size-requires c κs = search needs
 
--- src/handles.rt:105:17
 cast-t5 : tie.Need-cast-t5
 cast-t5 c = search needs
 
--- src/handles.rt:97:1
 returns : tie.Need-returns
 unfolding handleOf
 returns c =

@@ -4,10 +4,7 @@ use mathlib.Core.Path.{refl}
 use Rattle.boundary.specs.Handles.{headerFor}
 use Rattle.boundary.proofs.handles.header_for.Statement.{statement}
 use Rattle.boundary.proofs.handles.header_for.Tie as tie
-use Rattle.boundary.proofs.handles.header_for.Reads as reads
-use Rattle.boundary.proofs.handles.header_for.Lts as lts
 
--- src/handles.rt:116:1
 returns : tie.Need-returns
 unfolding headerFor
 returns c = refl

@@ -5,16 +5,10 @@ use borrow.Author.Tests.{eq-eqb, ne-eqb}
 use Rattle.boundary.specs.Handles.{indexFrom}
 use Rattle.boundary.proofs.handles.index_of.Statement.{statement}
 use Rattle.boundary.proofs.handles.index_of.Tie as tie
-use Rattle.boundary.proofs.handles.index_of.Reads as reads
-use Rattle.boundary.proofs.handles.index_of.Lts as lts
-use Rattle.boundary.proofs.handles.fits_nowhere.Reads as fits-nowhere-reads
-use Rattle.boundary.proofs.handles.with_format.Reads as with-format-reads
 
--- src/handles.rt:88:9
 with-format-requires : tie.Need-with-format-requires
 with-format-requires c κs = search needs
 
--- src/handles.rt:88:9
 returns : tie.Need-returns
 unfolding indexFrom
 returns c =
@@ -23,11 +17,9 @@ returns c =
       ← c .with-format .ensures,
     )
 
--- src/handles.rt:91:9
 with-format-requires-2 : tie.Need-with-format-requires-2
 with-format-requires-2 c κs = search needs
 
--- src/handles.rt:91:9
 returns-2 : tie.Need-returns-2
 unfolding indexFrom
 returns-2 c =
@@ -37,11 +29,9 @@ returns-2 c =
       ← c .with-format2 .ensures,
     )
 
--- src/handles.rt:93:5
 fits-nowhere-requires : tie.Need-fits-nowhere-requires
 fits-nowhere-requires c κs = search needs
 
--- src/handles.rt:84:1
 returns-3 : tie.Need-returns-3
 unfolding indexFrom
 returns-3 c =

@@ -4,17 +4,13 @@ use borrow.Author.Tests.{eq-eqb, ne-eqb}
 use Rattle.boundary.specs.Handles.{iterFrom}
 use Rattle.boundary.proofs.handles.iter_of.Statement.{statement}
 use Rattle.boundary.proofs.handles.iter_of.Tie as tie
-use Rattle.boundary.proofs.handles.iter_of.Reads as reads
-use Rattle.boundary.proofs.handles.iter_of.Lts as lts
 
--- src/handles.rt:144:9
 returns : tie.Need-returns
 unfolding iterFrom
 returns c =
     rw
     (eq-eqb _ _ (c .if1 .taken))
 
--- src/handles.rt:140:1
 returns-2 : tie.Need-returns-2
 unfolding iterFrom
 returns-2 c =

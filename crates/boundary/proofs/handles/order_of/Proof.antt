@@ -4,17 +4,13 @@ use borrow.Author.Tests.{eq-eqb, ne-eqb}
 use Rattle.boundary.specs.Handles.{orderOf}
 use Rattle.boundary.proofs.handles.order_of.Statement.{statement}
 use Rattle.boundary.proofs.handles.order_of.Tie as tie
-use Rattle.boundary.proofs.handles.order_of.Reads as reads
-use Rattle.boundary.proofs.handles.order_of.Lts as lts
 
--- src/handles.rt:44:9
 returns : tie.Need-returns
 unfolding orderOf
 returns c =
     rw
     (eq-eqb _ _ (c .if1 .taken))
 
--- src/handles.rt:40:1
 returns-2 : tie.Need-returns-2
 unfolding orderOf
 returns-2 c =

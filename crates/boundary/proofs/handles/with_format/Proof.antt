@@ -4,10 +4,7 @@ use mathlib.Core.Path.{refl}
 use Rattle.boundary.specs.Handles.{withFormat}
 use Rattle.boundary.proofs.handles.with_format.Statement.{statement}
 use Rattle.boundary.proofs.handles.with_format.Tie as tie
-use Rattle.boundary.proofs.handles.with_format.Reads as reads
-use Rattle.boundary.proofs.handles.with_format.Lts as lts
 
--- src/handles.rt:50:1
 returns : tie.Need-returns
 unfolding withFormat
 returns c = refl

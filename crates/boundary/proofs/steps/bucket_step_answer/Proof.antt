@@ -3,50 +3,36 @@
 use borrow.Author.Needs.{needs}
 use Rattle.boundary.proofs.steps.bucket_step_answer.Statement.{statement}
 use Rattle.boundary.proofs.steps.bucket_step_answer.Tie as tie
-use Rattle.boundary.proofs.steps.bucket_step_answer.Reads as reads
-use Rattle.boundary.proofs.steps.bucket_step_answer.Lts as lts
-use Rattle.reader.proofs.error.Error.number.Reads as number-reads
-use Rattle.reader.proofs.error.Error.value.Reads as value-reads
 
--- src/steps.rt:201:30
 enum-known-r : tie.Need-enum-known-r
 enum-known-r c = search needs
 
--- src/steps.rt:207:24
 cast-t12 : tie.Need-cast-t12
 cast-t12 c = search needs
 
--- src/steps.rt:212:29
 enum-known-r-2 : tie.Need-enum-known-r-2
 enum-known-r-2 c = search needs
 
--- src/steps.rt:222:33
 enum-known-r-3 : tie.Need-enum-known-r-3
 enum-known-r-3 c = search needs
 
--- src/steps.rt:225:25
 number-requires : tie.Need-number-requires
 number-requires c κs = search needs
 
--- src/steps.rt:225:25
 cast-t14 : tie.Need-cast-t14
 cast-t14 c = search needs
 
--- src/steps.rt:227:24
 value-requires : tie.Need-value-requires
 value-requires c κs = search needs
 
--- src/steps.rt:197:1
 returns : tie.Need-returns
 returns c =
     rw (c .before .before .before .before .r .given .1)
 
--- src/steps.rt:197:1
 returns-2 : tie.Need-returns-2
 returns-2 c =
     rw (c .before .before .r2 .given .1)
 
--- src/steps.rt:197:1
 returns-3 : tie.Need-returns-3
 returns-3 c =
     rw (

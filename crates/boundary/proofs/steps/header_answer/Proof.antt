@@ -3,50 +3,34 @@
 use borrow.Author.Needs.{needs}
 use Rattle.boundary.proofs.steps.header_answer.Statement.{statement}
 use Rattle.boundary.proofs.steps.header_answer.Tie as tie
-use Rattle.boundary.proofs.steps.header_answer.Reads as reads
-use Rattle.boundary.proofs.steps.header_answer.Lts as lts
-use Rattle.boundary.proofs.handles.handle_of.Reads as handle-of-reads
-use Rattle.boundary.proofs.steps.no_handle.Reads as no-handle-reads
-use Rattle.reader.proofs.error.Error.number.Reads as number-reads
-use Rattle.reader.proofs.error.Error.value.Reads as value-reads
 
--- src/steps.rt:101:28
 enum-known-r : tie.Need-enum-known-r
 enum-known-r c = search needs
 
--- src/steps.rt:108:24
 handle-of-requires : tie.Need-handle-of-requires
 handle-of-requires c κs = search needs
 
--- src/steps.rt:111:25
 enum-known-r-2 : tie.Need-enum-known-r-2
 enum-known-r-2 c = search needs
 
--- src/steps.rt:116:20
 no-handle-requires : tie.Need-no-handle-requires
 no-handle-requires c κs = search needs
 
--- src/steps.rt:118:29
 enum-known-r-3 : tie.Need-enum-known-r-3
 enum-known-r-3 c = search needs
 
--- src/steps.rt:119:21
 number-requires : tie.Need-number-requires
 number-requires c κs = search needs
 
--- src/steps.rt:119:21
 cast-t13 : tie.Need-cast-t13
 cast-t13 c = search needs
 
--- src/steps.rt:121:20
 value-requires : tie.Need-value-requires
 value-requires c κs = search needs
 
--- src/steps.rt:123:20
 no-handle-requires-2 : tie.Need-no-handle-requires-2
 no-handle-requires-2 c κs = search needs
 
--- src/steps.rt:97:1
 returns : tie.Need-returns
 returns c =
     rw (
@@ -54,7 +38,6 @@ returns c =
       ← c .handle-of .ensures,
     )
 
--- src/steps.rt:97:1
 returns-2 : tie.Need-returns-2
 returns-2 c =
     rw (
@@ -62,7 +45,6 @@ returns-2 c =
       ← c .no-handle .ensures,
     )
 
--- src/steps.rt:97:1
 returns-3 : tie.Need-returns-3
 returns-3 c =
     rw (

@@ -4,10 +4,7 @@ use mathlib.Core.Path.{refl}
 use Rattle.boundary.specs.Handles.{noCursor}
 use Rattle.boundary.proofs.steps.no_cursor.Statement.{statement}
 use Rattle.boundary.proofs.steps.no_cursor.Tie as tie
-use Rattle.boundary.proofs.steps.no_cursor.Reads as reads
-use Rattle.boundary.proofs.steps.no_cursor.Lts as lts
 
--- src/steps.rt:85:1
 returns : tie.Need-returns
 unfolding noCursor
 returns c = refl

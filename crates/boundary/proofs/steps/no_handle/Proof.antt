@@ -4,10 +4,7 @@ use mathlib.Core.Path.{refl}
 use Rattle.boundary.specs.Handles.{noHandle}
 use Rattle.boundary.proofs.steps.no_handle.Statement.{statement}
 use Rattle.boundary.proofs.steps.no_handle.Tie as tie
-use Rattle.boundary.proofs.steps.no_handle.Reads as reads
-use Rattle.boundary.proofs.steps.no_handle.Lts as lts
 
--- src/steps.rt:69:1
 returns : tie.Need-returns
 unfolding noHandle
 returns c = refl

@@ -3,25 +3,16 @@
 use borrow.Author.Needs.{needs}
 use Rattle.debug_names.proofs.counting.debug_names_bucket_count.Statement.{statement}
 use Rattle.debug_names.proofs.counting.debug_names_bucket_count.Tie as tie
-use Rattle.debug_names.proofs.counting.debug_names_bucket_count.Reads as reads
-use Rattle.debug_names.proofs.counting.debug_names_bucket_count.Lts as lts
-use Rattle.boundary.proofs.count_answer.Reads as count-answer-reads
-use Rattle.boundary.proofs.index_of.Reads as index-of-reads
-use Rattle.names.proofs.bucket_count.Reads as bucket-count-reads
 
--- src/counting.rt:56:40
 index-of-requires : tie.Need-index-of-requires
 index-of-requires c κs = search needs
 
--- src/counting.rt:56:18
 bucket-count-requires : tie.Need-bucket-count-requires
 bucket-count-requires c κs = search needs
 
--- src/counting.rt:56:5
 count-answer-requires : tie.Need-count-answer-requires
 count-answer-requires c κs = search needs
 
--- src/counting.rt:52:1
 returns : tie.Need-returns
 returns c =
     rw (

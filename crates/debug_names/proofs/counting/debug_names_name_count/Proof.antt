@@ -3,25 +3,16 @@
 use borrow.Author.Needs.{needs}
 use Rattle.debug_names.proofs.counting.debug_names_name_count.Statement.{statement}
 use Rattle.debug_names.proofs.counting.debug_names_name_count.Tie as tie
-use Rattle.debug_names.proofs.counting.debug_names_name_count.Reads as reads
-use Rattle.debug_names.proofs.counting.debug_names_name_count.Lts as lts
-use Rattle.boundary.proofs.count_answer.Reads as count-answer-reads
-use Rattle.boundary.proofs.index_of.Reads as index-of-reads
-use Rattle.names.proofs.name_count.Reads as name-count-reads
 
--- src/counting.rt:64:38
 index-of-requires : tie.Need-index-of-requires
 index-of-requires c κs = search needs
 
--- src/counting.rt:64:18
 name-count-requires : tie.Need-name-count-requires
 name-count-requires c κs = search needs
 
--- src/counting.rt:64:5
 count-answer-requires : tie.Need-count-answer-requires
 count-answer-requires c κs = search needs
 
--- src/counting.rt:60:1
 returns : tie.Need-returns
 returns c =
     rw (

@@ -3,30 +3,19 @@
 use borrow.Author.Needs.{needs}
 use Rattle.debug_names.proofs.lookups.debug_names_check_table.Statement.{statement}
 use Rattle.debug_names.proofs.lookups.debug_names_check_table.Tie as tie
-use Rattle.debug_names.proofs.lookups.debug_names_check_table.Reads as reads
-use Rattle.debug_names.proofs.lookups.debug_names_check_table.Lts as lts
-use Rattle.boundary.proofs.check_answer.Reads as check-answer-reads
-use Rattle.boundary.proofs.index_of.Reads as index-of-reads
-use Rattle.boundary.proofs.order_of.Reads as order-of-reads
-use Rattle.tables.proofs.check_table.Reads as check-table-reads
 
--- src/lookups.rt:90:30
 order-of-requires : tie.Need-order-of-requires
 order-of-requires c κs = search needs
 
--- src/lookups.rt:90:56
 index-of-requires : tie.Need-index-of-requires
 index-of-requires c κs = search needs
 
--- src/lookups.rt:90:18
 check-table-requires : tie.Need-check-table-requires
 check-table-requires c κs = search needs
 
--- src/lookups.rt:90:5
 check-answer-requires : tie.Need-check-answer-requires
 check-answer-requires c κs = search needs
 
--- src/lookups.rt:86:1
 returns : tie.Need-returns
 returns c =
     rw (

@@ -3,30 +3,19 @@
 use borrow.Author.Needs.{needs}
 use Rattle.debug_names.proofs.lookups.debug_names_find_by_bucket.Statement.{statement}
 use Rattle.debug_names.proofs.lookups.debug_names_find_by_bucket.Tie as tie
-use Rattle.debug_names.proofs.lookups.debug_names_find_by_bucket.Reads as reads
-use Rattle.debug_names.proofs.lookups.debug_names_find_by_bucket.Lts as lts
-use Rattle.boundary.proofs.bucket_answer.Reads as bucket-answer-reads
-use Rattle.boundary.proofs.index_of.Reads as index-of-reads
-use Rattle.boundary.proofs.order_of.Reads as order-of-reads
-use Rattle.hashes.proofs.find_by_bucket.Reads as find-by-bucket-reads
 
--- src/lookups.rt:37:34
 order-of-requires : tie.Need-order-of-requires
 order-of-requires c κs = search needs
 
--- src/lookups.rt:37:60
 index-of-requires : tie.Need-index-of-requires
 index-of-requires c κs = search needs
 
--- src/lookups.rt:37:19
 find-by-bucket-requires : tie.Need-find-by-bucket-requires
 find-by-bucket-requires c κs = search needs
 
--- src/lookups.rt:37:5
 bucket-answer-requires : tie.Need-bucket-answer-requires
 bucket-answer-requires c κs = search needs
 
--- src/lookups.rt:28:1
 returns : tie.Need-returns
 returns c =
     rw (

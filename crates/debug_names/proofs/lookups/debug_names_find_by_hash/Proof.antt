@@ -3,30 +3,19 @@
 use borrow.Author.Needs.{needs}
 use Rattle.debug_names.proofs.lookups.debug_names_find_by_hash.Statement.{statement}
 use Rattle.debug_names.proofs.lookups.debug_names_find_by_hash.Tie as tie
-use Rattle.debug_names.proofs.lookups.debug_names_find_by_hash.Reads as reads
-use Rattle.debug_names.proofs.lookups.debug_names_find_by_hash.Lts as lts
-use Rattle.boundary.proofs.index_of.Reads as index-of-reads
-use Rattle.boundary.proofs.order_of.Reads as order-of-reads
-use Rattle.boundary.proofs.hash_answer.Reads as hash-answer-reads
-use Rattle.hashes.proofs.find_by_hash.Reads as find-by-hash-reads
 
--- src/lookups.rt:68:30
 order-of-requires : tie.Need-order-of-requires
 order-of-requires c κs = search needs
 
--- src/lookups.rt:68:56
 index-of-requires : tie.Need-index-of-requires
 index-of-requires c κs = search needs
 
--- src/lookups.rt:68:17
 find-by-hash-requires : tie.Need-find-by-hash-requires
 find-by-hash-requires c κs = search needs
 
--- src/lookups.rt:68:5
 hash-answer-requires : tie.Need-hash-answer-requires
 hash-answer-requires c κs = search needs
 
--- src/lookups.rt:59:1
 returns : tie.Need-returns
 returns c =
     rw (

@@ -3,20 +3,13 @@
 use borrow.Author.Needs.{needs}
 use Rattle.debug_names.proofs.naming.debug_names_get_str.Statement.{statement}
 use Rattle.debug_names.proofs.naming.debug_names_get_str.Tie as tie
-use Rattle.debug_names.proofs.naming.debug_names_get_str.Reads as reads
-use Rattle.debug_names.proofs.naming.debug_names_get_str.Lts as lts
-use Rattle.boundary.proofs.string_answer.Reads as string-answer-reads
-use Rattle.strings.proofs.DebugStr.get_str.Reads as get-str-reads
 
--- src/naming.rt:64:19
 get-str-requires : tie.Need-get-str-requires
 get-str-requires c κs = search needs
 
--- src/naming.rt:64:5
 string-answer-requires : tie.Need-string-answer-requires
 string-answer-requires c κs = search needs
 
--- src/naming.rt:60:1
 returns : tie.Need-returns
 returns c =
     rw (

@@ -3,30 +3,19 @@
 use borrow.Author.Needs.{needs}
 use Rattle.debug_names.proofs.naming.debug_names_name_string.Statement.{statement}
 use Rattle.debug_names.proofs.naming.debug_names_name_string.Tie as tie
-use Rattle.debug_names.proofs.naming.debug_names_name_string.Reads as reads
-use Rattle.debug_names.proofs.naming.debug_names_name_string.Lts as lts
-use Rattle.boundary.proofs.index_of.Reads as index-of-reads
-use Rattle.boundary.proofs.order_of.Reads as order-of-reads
-use Rattle.boundary.proofs.string_answer.Reads as string-answer-reads
-use Rattle.names.proofs.name_string.Reads as name-string-reads
 
--- src/naming.rt:51:9
 order-of-requires : tie.Need-order-of-requires
 order-of-requires c κs = search needs
 
--- src/naming.rt:54:9
 index-of-requires : tie.Need-index-of-requires
 index-of-requires c κs = search needs
 
--- src/naming.rt:50:19
 name-string-requires : tie.Need-name-string-requires
 name-string-requires c κs = search needs
 
--- src/naming.rt:50:5
 string-answer-requires : tie.Need-string-answer-requires
 string-answer-requires c κs = search needs
 
--- src/naming.rt:40:1
 returns : tie.Need-returns
 returns c =
     rw (

@@ -3,25 +3,16 @@
 use borrow.Author.Needs.{needs}
 use Rattle.debug_names.proofs.opening.debug_names_next_header.Statement.{statement}
 use Rattle.debug_names.proofs.opening.debug_names_next_header.Tie as tie
-use Rattle.debug_names.proofs.opening.debug_names_next_header.Reads as reads
-use Rattle.debug_names.proofs.opening.debug_names_next_header.Lts as lts
-use Rattle.boundary.proofs.order_of.Reads as order-of-reads
-use Rattle.boundary.proofs.header_answer.Reads as header-answer-reads
-use Rattle.headers.proofs.headers.NameIndexHeaderIter.next.Reads as next-reads
 
--- src/opening.rt:27:31
 order-of-requires : tie.Need-order-of-requires
 order-of-requires c κs = search needs
 
--- src/opening.rt:27:19
 next-requires : tie.Need-next-requires
 next-requires c κs = search needs
 
--- src/opening.rt:27:5
 header-answer-requires : tie.Need-header-answer-requires
 header-answer-requires c κs = search needs
 
--- src/opening.rt:22:1
 returns : tie.Need-returns
 returns c =
     rw (

@@ -4,30 +4,19 @@ use borrow.Author.Needs.{needs}
 use Rattle.boundary.proofs.BoundaryLaws.{entry-whole}
 use Rattle.debug_names.proofs.pool.debug_names_name_entry.Statement.{statement}
 use Rattle.debug_names.proofs.pool.debug_names_name_entry.Tie as tie
-use Rattle.debug_names.proofs.pool.debug_names_name_entry.Reads as reads
-use Rattle.debug_names.proofs.pool.debug_names_name_entry.Lts as lts
-use Rattle.boundary.proofs.entry_answer.Reads as entry-answer-reads
-use Rattle.boundary.proofs.index_of.Reads as index-of-reads
-use Rattle.boundary.proofs.order_of.Reads as order-of-reads
-use Rattle.entries.proofs.whole_entry.Reads as whole-entry-reads
 
--- src/pool.rt:67:9
 order-of-requires : tie.Need-order-of-requires
 order-of-requires c κs = search needs
 
--- src/pool.rt:68:9
 index-of-requires : tie.Need-index-of-requires
 index-of-requires c κs = search needs
 
--- src/pool.rt:70:9
 whole-entry-requires : tie.Need-whole-entry-requires
 whole-entry-requires c κs = search needs
 
--- src/pool.rt:71:5
 entry-answer-requires : tie.Need-entry-answer-requires
 entry-answer-requires c κs = search needs
 
--- src/pool.rt:58:1
 returns : tie.Need-returns
 returns c =
     rw (

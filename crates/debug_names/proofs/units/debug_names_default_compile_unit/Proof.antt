@@ -3,30 +3,19 @@
 use borrow.Author.Needs.{needs}
 use Rattle.debug_names.proofs.units.debug_names_default_compile_unit.Statement.{statement}
 use Rattle.debug_names.proofs.units.debug_names_default_compile_unit.Tie as tie
-use Rattle.debug_names.proofs.units.debug_names_default_compile_unit.Reads as reads
-use Rattle.debug_names.proofs.units.debug_names_default_compile_unit.Lts as lts
-use Rattle.boundary.proofs.default_unit_answer.Reads as default-unit-answer-reads
-use Rattle.boundary.proofs.index_of.Reads as index-of-reads
-use Rattle.boundary.proofs.order_of.Reads as order-of-reads
-use Rattle.names.proofs.default_compile_unit.Reads as default-compile-unit-reads
 
--- src/units.rt:87:46
 order-of-requires : tie.Need-order-of-requires
 order-of-requires c κs = search needs
 
--- src/units.rt:87:72
 index-of-requires : tie.Need-index-of-requires
 index-of-requires c κs = search needs
 
--- src/units.rt:87:25
 default-compile-unit-requires : tie.Need-default-compile-unit-requires
 default-compile-unit-requires c κs = search needs
 
--- src/units.rt:87:5
 default-unit-answer-requires : tie.Need-default-unit-answer-requires
 default-unit-answer-requires c κs = search needs
 
--- src/units.rt:79:1
 returns : tie.Need-returns
 returns c =
     rw (

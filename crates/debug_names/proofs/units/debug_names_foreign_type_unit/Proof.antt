@@ -3,30 +3,19 @@
 use borrow.Author.Needs.{needs}
 use Rattle.debug_names.proofs.units.debug_names_foreign_type_unit.Statement.{statement}
 use Rattle.debug_names.proofs.units.debug_names_foreign_type_unit.Tie as tie
-use Rattle.debug_names.proofs.units.debug_names_foreign_type_unit.Reads as reads
-use Rattle.debug_names.proofs.units.debug_names_foreign_type_unit.Lts as lts
-use Rattle.boundary.proofs.signature_answer.Reads as signature-answer-reads
-use Rattle.boundary.proofs.index_of.Reads as index-of-reads
-use Rattle.boundary.proofs.order_of.Reads as order-of-reads
-use Rattle.names.proofs.foreign_type_unit.Reads as foreign-type-unit-reads
 
--- src/units.rt:62:40
 order-of-requires : tie.Need-order-of-requires
 order-of-requires c κs = search needs
 
--- src/units.rt:62:66
 index-of-requires : tie.Need-index-of-requires
 index-of-requires c κs = search needs
 
--- src/units.rt:62:22
 foreign-type-unit-requires : tie.Need-foreign-type-unit-requires
 foreign-type-unit-requires c κs = search needs
 
--- src/units.rt:62:5
 signature-answer-requires : tie.Need-signature-answer-requires
 signature-answer-requires c κs = search needs
 
--- src/units.rt:53:1
 returns : tie.Need-returns
 returns c =
     rw (

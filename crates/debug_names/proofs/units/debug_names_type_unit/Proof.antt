@@ -3,30 +3,19 @@
 use borrow.Author.Needs.{needs}
 use Rattle.debug_names.proofs.units.debug_names_type_unit.Statement.{statement}
 use Rattle.debug_names.proofs.units.debug_names_type_unit.Tie as tie
-use Rattle.debug_names.proofs.units.debug_names_type_unit.Reads as reads
-use Rattle.debug_names.proofs.units.debug_names_type_unit.Lts as lts
-use Rattle.boundary.proofs.type_unit_answer.Reads as type-unit-answer-reads
-use Rattle.boundary.proofs.index_of.Reads as index-of-reads
-use Rattle.boundary.proofs.order_of.Reads as order-of-reads
-use Rattle.names.proofs.type_unit.Reads as type-unit-reads
 
--- src/units.rt:75:32
 order-of-requires : tie.Need-order-of-requires
 order-of-requires c κs = search needs
 
--- src/units.rt:75:58
 index-of-requires : tie.Need-index-of-requires
 index-of-requires c κs = search needs
 
--- src/units.rt:75:22
 type-unit-requires : tie.Need-type-unit-requires
 type-unit-requires c κs = search needs
 
--- src/units.rt:75:5
 type-unit-answer-requires : tie.Need-type-unit-answer-requires
 type-unit-answer-requires c κs = search needs
 
--- src/units.rt:66:1
 returns : tie.Need-returns
 returns c =
     rw (

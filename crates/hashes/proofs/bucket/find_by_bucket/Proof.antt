@@ -4,24 +4,16 @@ use borrow.Author.Needs.{needs}
 use Rattle.hashes.specs.Lookups.{findByBucket}
 use Rattle.hashes.proofs.bucket.find_by_bucket.Statement.{statement}
 use Rattle.hashes.proofs.bucket.find_by_bucket.Tie as tie
-use Rattle.hashes.proofs.bucket.find_by_bucket.Reads as reads
-use Rattle.hashes.proofs.bucket.find_by_bucket.Lts as lts
-use Rattle.hashes.proofs.bucket.first_name.Reads as first-name-reads
-use Rattle.index.proofs.fit.Reads as fit-reads
 
--- src/bucket.rt:115:19
 fit-requires : tie.Need-fit-requires
 fit-requires c κs = search needs
 
--- src/bucket.rt:116:26
 enum-known-p : tie.Need-enum-known-p
 enum-known-p c = search needs
 
--- src/bucket.rt:117:28
 enum-known-e : tie.Need-enum-known-e
 enum-known-e c = search needs
 
--- src/bucket.rt:117:34
 returns : tie.Need-returns
 unfolding findByBucket
 returns c =
@@ -30,23 +22,18 @@ returns c =
       c .before .e .given .1,
     )
 
--- src/bucket.rt:119:11
 first-name-requires : tie.Need-first-name-requires
 first-name-requires c κs = search needs
 
--- src/bucket.rt:127:46
 enum-told : tie.Need-enum-told
 enum-told c = search needs
 
--- src/bucket.rt:128:25
 enum-known-first : tie.Need-enum-known-first
 enum-known-first c = search needs
 
--- src/bucket.rt:132:28
 enum-known-e-2 : tie.Need-enum-known-e-2
 enum-known-e-2 c = search needs
 
--- src/bucket.rt:107:1
 returns-2 : tie.Need-returns-2
 unfolding findByBucket
 returns-2 c =
@@ -57,7 +44,6 @@ returns-2 c =
       c .enum-told .given .1,
     )
 
--- src/bucket.rt:107:1
 returns-3 : tie.Need-returns-3
 unfolding findByBucket
 returns-3 c =
@@ -68,7 +54,6 @@ returns-3 c =
       c .before .first .given .1,
     )
 
--- src/bucket.rt:107:1
 returns-4 : tie.Need-returns-4
 unfolding findByBucket
 returns-4 c =

@@ -5,28 +5,19 @@ use borrow.Author.Tests.{eq-eqb, ne-eqb}
 use Rattle.hashes.specs.Lookups.{firstName}
 use Rattle.hashes.proofs.bucket.first_name.Statement.{statement}
 use Rattle.hashes.proofs.bucket.first_name.Tie as tie
-use Rattle.hashes.proofs.bucket.first_name.Reads as reads
-use Rattle.hashes.proofs.bucket.first_name.Lts as lts
-use Rattle.reader.proofs.read_u32.Reads as read-u32-reads
-use Rattle.reader.proofs.skip.Reads as skip-reads
 
--- src/bucket.rt:88:28
 mul-skip : tie.Need-mul-skip
 mul-skip c = search needs
 
--- src/bucket.rt:88:23
 skip-requires : tie.Need-skip-requires
 skip-requires c κs = search needs
 
--- src/bucket.rt:89:21
 enum-known-next : tie.Need-enum-known-next
 enum-known-next c = search needs
 
--- src/bucket.rt:90:26
 enum-known-e : tie.Need-enum-known-e
 enum-known-e c = search needs
 
--- src/bucket.rt:90:32
 returns : tie.Need-returns
 unfolding firstName
 returns c =
@@ -35,19 +26,15 @@ returns c =
       c .before .e .given .1,
     )
 
--- src/bucket.rt:92:23
 read-u32-requires : tie.Need-read-u32-requires
 read-u32-requires c κs = search needs
 
--- src/bucket.rt:93:24
 enum-known-r : tie.Need-enum-known-r
 enum-known-r c = search needs
 
--- src/bucket.rt:94:26
 enum-known-e-2 : tie.Need-enum-known-e-2
 enum-known-e-2 c = search needs
 
--- src/bucket.rt:94:32
 returns-2 : tie.Need-returns-2
 unfolding firstName
 returns-2 c =
@@ -58,7 +45,6 @@ returns-2 c =
       c .before .e2 .given .1,
     )
 
--- src/bucket.rt:97:9
 returns-3 : tie.Need-returns-3
 unfolding firstName
 returns-3 c =
@@ -70,31 +56,24 @@ returns-3 c =
       eq-eqb _ _ (c .if1 .taken),
     )
 
--- src/bucket.rt:99:17
 sub-first : tie.Need-sub-first
 sub-first c = search needs
 
--- src/bucket.rt:100:21
 cast-skip : tie.Need-cast-skip
 cast-skip c = search needs
 
--- src/bucket.rt:100:16
 mul-skip-2 : tie.Need-mul-skip-2
 mul-skip-2 c = search needs
 
--- src/bucket.rt:100:11
 skip-requires-2 : tie.Need-skip-requires-2
 skip-requires-2 c κs = search needs
 
--- src/bucket.rt:101:27
 enum-told : tie.Need-enum-told
 enum-told c = search needs
 
--- src/bucket.rt:102:26
 enum-known-e-3 : tie.Need-enum-known-e-3
 enum-known-e-3 c = search needs
 
--- src/bucket.rt:78:1
 returns-4 : tie.Need-returns-4
 unfolding firstName
 returns-4 c =
@@ -108,7 +87,6 @@ returns-4 c =
       c .enum-told .given .1,
     )
 
--- src/bucket.rt:78:1
 returns-5 : tie.Need-returns-5
 unfolding firstName
 returns-5 c =

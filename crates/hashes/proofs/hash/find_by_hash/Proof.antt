@@ -4,30 +4,19 @@ use borrow.Author.Needs.{needs}
 use Rattle.hashes.specs.Lookups.{findByHash, findByBucket}
 use Rattle.hashes.proofs.hash.find_by_hash.Statement.{statement}
 use Rattle.hashes.proofs.hash.find_by_hash.Tie as tie
-use Rattle.hashes.proofs.hash.find_by_hash.Reads as reads
-use Rattle.hashes.proofs.hash.find_by_hash.Lts as lts
-use Rattle.hashes.proofs.bucket.bucket_of.Reads as bucket-of-reads
-use Rattle.hashes.proofs.bucket.first_name.Reads as first-name-reads
-use Rattle.hashes.proofs.hash.cursor_at.Reads as cursor-at-reads
-use Rattle.index.proofs.fit.Reads as fit-reads
 
--- src/hash.rt:50:9
 bucket-of-requires : tie.Need-bucket-of-requires
 bucket-of-requires c κs = search needs
 
--- src/hash.rt:51:19
 fit-requires : tie.Need-fit-requires
 fit-requires c κs = search needs
 
--- src/hash.rt:52:26
 enum-known-p : tie.Need-enum-known-p
 enum-known-p c = search needs
 
--- src/hash.rt:53:28
 enum-known-e : tie.Need-enum-known-e
 enum-known-e c = search needs
 
--- src/hash.rt:53:34
 returns : tie.Need-returns
 unfolding findByHash findByBucket
 returns c =
@@ -37,27 +26,21 @@ returns c =
       c .before .e .given .1,
     )
 
--- src/hash.rt:55:11
 first-name-requires : tie.Need-first-name-requires
 first-name-requires c κs = search needs
 
--- src/hash.rt:64:26
 enum-told : tie.Need-enum-told
 enum-told c = search needs
 
--- src/hash.rt:67:25
 enum-known-first : tie.Need-enum-known-first
 enum-known-first c = search needs
 
--- src/hash.rt:67:51
 cursor-at-requires : tie.Need-cursor-at-requires
 cursor-at-requires c κs = search needs
 
--- src/hash.rt:68:28
 enum-known-e-2 : tie.Need-enum-known-e-2
 enum-known-e-2 c = search needs
 
--- src/hash.rt:47:1
 returns-2 : tie.Need-returns-2
 unfolding findByHash findByBucket
 returns-2 c =
@@ -69,7 +52,6 @@ returns-2 c =
       c .enum-told .given .1,
     )
 
--- src/hash.rt:47:1
 returns-3 : tie.Need-returns-3
 unfolding findByHash findByBucket
 returns-3 c =
@@ -82,7 +64,6 @@ returns-3 c =
       ← c .cursor-at .ensures,
     )
 
--- src/hash.rt:47:1
 returns-4 : tie.Need-returns-4
 unfolding findByHash findByBucket
 returns-4 c =

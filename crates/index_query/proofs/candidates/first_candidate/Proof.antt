@@ -9,25 +9,16 @@ use Rattle.index_query.specs.Candidates.{candidates}
 use Rattle.index_query.proofs.CandidateLaws.{names-first, none-past, all-names}
 use Rattle.index_query.proofs.candidates.first_candidate.Statement.{statement}
 use Rattle.index_query.proofs.candidates.first_candidate.Tie as tie
-use Rattle.index_query.proofs.candidates.first_candidate.Reads as reads
-use Rattle.index_query.proofs.candidates.first_candidate.Lts as lts
-use Rattle.hashes.proofs.bucket_of.Reads as bucket-of-reads
-use Rattle.hashes.proofs.first_name.Reads as first-name-reads
-use Rattle.index.proofs.fit.Reads as fit-reads
 
--- src/candidates.rt:40:19
 fit-requires : tie.Need-fit-requires
 fit-requires c κs = search needs
 
--- src/candidates.rt:41:26
 enum-known-p : tie.Need-enum-known-p
 enum-known-p c = search needs
 
--- src/candidates.rt:42:28
 enum-known-e : tie.Need-enum-known-e
 enum-known-e c = search needs
 
--- src/candidates.rt:42:34
 returns : tie.Need-returns
 unfolding candidates findByHash findByBucket
 returns c =
@@ -36,7 +27,6 @@ returns c =
       c .before .e .given .1,
     )
 
--- src/candidates.rt:45:9
 returns-2 : tie.Need-returns-2
 unfolding candidates findByHash findByBucket
 returns-2 c =
@@ -48,27 +38,21 @@ returns-2 c =
       all-names (a .order) (now (a .section)) (a .index) (a .hash) (c .if1 .taken),
     )
 
--- src/candidates.rt:53:9
 bucket-of-requires : tie.Need-bucket-of-requires
 bucket-of-requires c κs = search needs
 
--- src/candidates.rt:47:11
 first-name-requires : tie.Need-first-name-requires
 first-name-requires c κs = search needs
 
--- src/candidates.rt:55:28
 enum-told : tie.Need-enum-told
 enum-told c = search needs
 
--- src/candidates.rt:56:25
 enum-known-first : tie.Need-enum-known-first
 enum-known-first c = search needs
 
--- src/candidates.rt:57:28
 enum-known-e-2 : tie.Need-enum-known-e-2
 enum-known-e-2 c = search needs
 
--- src/candidates.rt:32:1
 returns-3 : tie.Need-returns-3
 unfolding candidates findByHash findByBucket
 returns-3 c =
@@ -86,7 +70,6 @@ returns-3 c =
       none-past,
     )
 
--- src/candidates.rt:32:1
 returns-4 : tie.Need-returns-4
 unfolding candidates findByHash findByBucket
 returns-4 c =
@@ -103,7 +86,6 @@ returns-4 c =
       names-first (a .order) (now (a .section)) (a .index) (a .hash) _ _ fits (c .before .before .before .before .before .if1 .left) (sym (rw (c .before .before .before .before .bucket-of .ensures) at began)),
     )
 
--- src/candidates.rt:32:1
 returns-5 : tie.Need-returns-5
 unfolding candidates findByHash findByBucket
 returns-5 c =

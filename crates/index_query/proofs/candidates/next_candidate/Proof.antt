@@ -9,25 +9,16 @@ use Rattle.index_query.specs.Candidates.{candidatesAt}
 use Rattle.index_query.proofs.CandidateLaws.{has-buckets, all-step, next-stored}
 use Rattle.index_query.proofs.candidates.next_candidate.Statement.{statement}
 use Rattle.index_query.proofs.candidates.next_candidate.Tie as tie
-use Rattle.index_query.proofs.candidates.next_candidate.Reads as reads
-use Rattle.index_query.proofs.candidates.next_candidate.Lts as lts
-use Rattle.hashes.proofs.bucket_of.Reads as bucket-of-reads
-use Rattle.hashes.proofs.pass_over.Reads as pass-over-reads
-use Rattle.index.proofs.fit.Reads as fit-reads
 
--- src/candidates.rt:71:19
 fit-requires : tie.Need-fit-requires
 fit-requires c κs = search needs
 
--- src/candidates.rt:72:26
 enum-known-p : tie.Need-enum-known-p
 enum-known-p c = search needs
 
--- src/candidates.rt:73:28
 enum-known-e : tie.Need-enum-known-e
 enum-known-e c = search needs
 
--- src/candidates.rt:73:34
 returns : tie.Need-returns
 unfolding candidatesAt
 returns c =
@@ -36,7 +27,6 @@ returns c =
       c .before .e .given .1,
     )
 
--- src/candidates.rt:77:13
 returns-2 : tie.Need-returns-2
 unfolding candidatesAt
 returns-2 c =
@@ -48,11 +38,9 @@ returns-2 c =
       le-leb _ _ (c .if2 .taken),
     )
 
--- src/candidates.rt:79:54
 add-t16 : tie.Need-add-t16
 add-t16 c = search needs
 
--- src/candidates.rt:79:9
 returns-3 : tie.Need-returns-3
 unfolding candidatesAt
 returns-3 c =
@@ -64,26 +52,21 @@ returns-3 c =
       lt-leb _ _ (c .if2 .left),
     )
 
--- src/candidates.rt:86:9
 bucket-of-requires : tie.Need-bucket-of-requires
 bucket-of-requires c κs = search needs
 
--- src/candidates.rt:81:11
 pass-over-requires : tie.Need-pass-over-requires
 pass-over-requires c κs =
     let a = c .before .before .before .before .before .before .before .before .args in
     let fits = rw (c .before .before .before .before .p .given .1) at (c .before .before .before .before .before .before .fit .ensures) in
     hashes-within (now (a .section)) (a .index) _ fits (has-buckets (a .order) (now (a .section)) (a .index) (a .hash) (c .before .if1 .left))
 
--- src/candidates.rt:90:21
 enum-known-name : tie.Need-enum-known-name
 enum-known-name c = search needs
 
--- src/candidates.rt:91:26
 enum-told : tie.Need-enum-told
 enum-told c = search needs
 
--- src/candidates.rt:62:1
 returns-4 : tie.Need-returns-4
 unfolding candidatesAt
 returns-4 c =
@@ -98,7 +81,6 @@ returns-4 c =
       c .before .name .given .1,
     )
 
--- src/candidates.rt:62:1
 returns-5 : tie.Need-returns-5
 unfolding candidatesAt
 returns-5 c =

@@ -5,36 +5,25 @@ use borrow.Author.Tests.{lt-ltb}
 use Rattle.leb128.proofs.Leb128Limits.{twoBytes, u16-two}
 use Rattle.leb128.proofs.read.u16.Statement.{statement}
 use Rattle.leb128.proofs.read.u16.Tie as tie
-use Rattle.leb128.proofs.read.u16.Reads as reads
-use Rattle.leb128.proofs.read.u16.Lts as lts
-use Rattle.leb128.proofs.read.long_u16.Reads as long-u16-reads
-use Rattle.reader.proofs.read_u8.Reads as read-u8-reads
 
--- src/lib.rt:148:27
 read-u8-requires : tie.Need-read-u8-requires
 read-u8-requires c κs = search needs
 
--- src/lib.rt:149:27
 enum-known-r : tie.Need-enum-known-r
 enum-known-r c = search needs
 
--- src/lib.rt:150:35
 enum-told : tie.Need-enum-told
 enum-told c = search needs
 
--- src/lib.rt:150:35
 long-u16-requires : tie.Need-long-u16-requires
 long-u16-requires c κs = search needs
 
--- src/lib.rt:150:35
 returns : tie.Need-returns
 returns c = search needs
 
--- src/lib.rt:154:24
 cast-t9 : tie.Need-cast-t9
 cast-t9 c = search needs
 
--- src/lib.rt:153:13
 returns-2 : tie.Need-returns-2
 unfolding twoBytes
 returns-2 c =
@@ -45,11 +34,9 @@ returns-2 c =
       lt-ltb _ _ (c .before .if1 .taken),
     )
 
--- src/lib.rt:158:9
 long-u16-requires-2 : tie.Need-long-u16-requires-2
 long-u16-requires-2 c κs = search needs
 
--- src/lib.rt:145:5
 returns-3 : tie.Need-returns-3
 returns-3 c = search needs
 

@@ -5,36 +5,25 @@ use borrow.Author.Tests.{lt-ltb}
 use Rattle.leb128.proofs.Leb128Limits.{twoBytes, unsigned-two}
 use Rattle.leb128.proofs.read.unsigned.Statement.{statement}
 use Rattle.leb128.proofs.read.unsigned.Tie as tie
-use Rattle.leb128.proofs.read.unsigned.Reads as reads
-use Rattle.leb128.proofs.read.unsigned.Lts as lts
-use Rattle.leb128.proofs.read.long_unsigned.Reads as long-unsigned-reads
-use Rattle.reader.proofs.read_u8.Reads as read-u8-reads
 
--- src/lib.rt:91:27
 read-u8-requires : tie.Need-read-u8-requires
 read-u8-requires c κs = search needs
 
--- src/lib.rt:92:27
 enum-known-r : tie.Need-enum-known-r
 enum-known-r c = search needs
 
--- src/lib.rt:93:35
 enum-told : tie.Need-enum-told
 enum-told c = search needs
 
--- src/lib.rt:93:35
 long-unsigned-requires : tie.Need-long-unsigned-requires
 long-unsigned-requires c κs = search needs
 
--- src/lib.rt:93:35
 returns : tie.Need-returns
 returns c = search needs
 
--- src/lib.rt:97:24
 cast-t9 : tie.Need-cast-t9
 cast-t9 c = search needs
 
--- src/lib.rt:96:13
 returns-2 : tie.Need-returns-2
 unfolding twoBytes
 returns-2 c =
@@ -45,11 +34,9 @@ returns-2 c =
       lt-ltb _ _ (c .before .if1 .taken),
     )
 
--- src/lib.rt:101:9
 long-unsigned-requires-2 : tie.Need-long-unsigned-requires-2
 long-unsigned-requires-2 c κs = search needs
 
--- src/lib.rt:88:5
 returns-3 : tie.Need-returns-3
 returns-3 c = search needs
 

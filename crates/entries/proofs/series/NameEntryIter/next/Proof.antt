@@ -4,27 +4,19 @@ use borrow.Author.Needs.{needs}
 use Rattle.entries.proofs.SeriesLaws.{entry-step}
 use Rattle.entries.proofs.series.NameEntryIter.next.Statement.{statement}
 use Rattle.entries.proofs.series.NameEntryIter.next.Tie as tie
-use Rattle.entries.proofs.series.NameEntryIter.next.Reads as reads
-use Rattle.entries.proofs.series.NameEntryIter.next.Lts as lts
-use Rattle.entries.proofs.series.NameEntryIter.next_whole.Reads as next-whole-reads
 
--- src/series.rt:117:15
 next-whole-requires : tie.Need-next-whole-requires
 next-whole-requires c κs = search needs
 
--- src/series.rt:118:33
 enum-known-after : tie.Need-enum-known-after
 enum-known-after c = search needs
 
--- src/series.rt:119:35
 enum-known-offset : tie.Need-enum-known-offset
 enum-known-offset c = search needs
 
--- src/series.rt:127:37
 enum-known-e : tie.Need-enum-known-e
 enum-known-e c = search needs
 
--- src/series.rt:114:5
 returns : tie.Need-returns
 returns c =
     rw (
@@ -33,7 +25,6 @@ returns c =
       c .before .after .given .1,
     )
 
--- src/series.rt:114:5
 returns-2 : tie.Need-returns-2
 returns-2 c =
     rw (
@@ -42,7 +33,6 @@ returns-2 c =
       c .before .offset .given .1,
     )
 
--- src/series.rt:114:5
 returns-3 : tie.Need-returns-3
 returns-3 c =
     rw (
