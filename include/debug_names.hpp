@@ -260,7 +260,7 @@ private:
 
 // ---- Sections and indexes
 
-enum class byte_order : std::uint32_t { little = 0, big = 1 };
+enum class byte_order : std::uint32_t { little = DEBUG_NAMES_LITTLE_ENDIAN, big = DEBUG_NAMES_BIG_ENDIAN };
 
 // A .debug_names section: its byte order and its bytes.
 class section {

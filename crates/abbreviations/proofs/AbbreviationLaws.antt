@@ -1,14 +1,14 @@
 -- Laws of the abbreviation table: pairs and declarations one at a time, with no count of turns, and what each answer tells.
 use Prim.Native.Nat.{ℕ, zero, suc, _+_, _-_, _*_, _%_, _/_, _≤_, _<_}
 use mathlib.Core.Path.{_≡_, refl, sym, ap, _∙_}
-use mathlib.Core.Bool.{Bool, true, false, cond}
+use mathlib.Core.Bool.{Bool, true, false, false≢true, cond}
 use mathlib.Core.Logic.{_⊎_, inl, inr}
 use mathlib.Core.List.{List, []}
 use mathlib.Core.Option.{Option, some, none, Option·none-ne-some, Option·some-injective}
 use native.Mathlib.Omega.{arith}
 use lib.Dec.{ltb, eqb}
 use lib.Seq.{slice}
-use borrow.Author.Tests.{eq-eqb, ne-eqb, eqb-true, ltb-false}
+use borrow.Author.Tests.{eq-eqb, ne-eqb, eqb-true, le-ltb, ltb-true, ltb-false}
 use Rattle.reader.specs.Outcome.{Outcome, answered, refused, _>>=_, _>>_, demand, refuseIf}
 use Rattle.reader.specs.Parts.{partEnd, leftAt, Forward}
 use Rattle.reader.specs.Numbers.{Read, readByte}
@@ -23,7 +23,7 @@ use Rattle.reader.proofs.ListingLaws.{listing-step, listing-agree}
 use Rattle.abbreviations.specs.declared.NameAbbreviation.{NameAbbreviation}
 use Rattle.abbreviations.specs.declared.Abbreviation.{Abbreviation}
 use Rattle.abbreviations.specs.Sanity.{TablesUnfold, DeclarationsForward, DeclarationsRead, FoundInTable, TablesInPart}
-use Rattle.abbreviations.specs.Abbreviations.{shortPair, Pair, pair, Attributes, before, attributesIn, attributes, attributesEnd, Head, head, Declaration, withAttributes, declaration, table, ending, parsed, find, handed, handedOut, handedOn, found, declared}
+use Rattle.abbreviations.specs.Abbreviations.{shortPair, isShort, Pair, pair, Attributes, before, attributesIn, attributes, attributesEnd, Head, head, Declaration, withAttributes, declaration, table, ending, parsed, find, handed, handedOut, handedOn, found, declared}
 
 -- the test of a pair
 abbrev tested : ℕ → ℕ → Outcome (Unit {0})
@@ -84,6 +84,34 @@ short-is s at end some-pair = first-byte (readByte s at end) refl
             low-bytes false et false eu false ey true ez = absurd (some-pair (rw (e, f, et, eu, ey, ez)))
             low-bytes false et false eu true ey true ez = made et eu (rw (e, f, et, eu, ey, ez)) (rw (ey, ez))
             low-bytes false et false eu false ey false ez = made et eu (rw (e, f, et, eu, ey, ez)) (rw (ey, ez))
+
+-- two bytes from 1 to 127 are one, and it is not 0
+pub short-some : (s : List ℕ) (at end : ℕ) → isShort s at end ≡ true → (shortPair s at end ≡ 65535 → ⊥) × (shortPair s at end ≡ 0 → ⊥)
+unfolding isShort shortPair
+short-some s at end short = first-byte (readByte s at end) refl
+  where
+    first-byte : (o : Outcome Read) → readByte s at end ≡ o → (shortPair s at end ≡ 65535 → ⊥) × (shortPair s at end ≡ 0 → ⊥)
+    first-byte (refused n v) e = absurd (false≢true (rw e at short))
+    first-byte (answered a) e = second-byte (readByte s (a .next) end) refl
+      where
+        second-byte : (o : Outcome Read) → readByte s (a .next) end ≡ o → (shortPair s at end ≡ 65535 → ⊥) × (shortPair s at end ≡ 0 → ⊥)
+        second-byte (refused n v) f = absurd (false≢true (rw (e, f) at short))
+        second-byte (answered b) f = by-tests (ltb (a .value) 1) refl (ltb 127 (a .value)) refl (ltb (b .value) 1) refl (ltb (b .value) 128) refl
+          where
+            by-tests : (t : Bool) → ltb (a .value) 1 ≡ t → (u : Bool) → ltb 127 (a .value) ≡ u → (y : Bool) → ltb (b .value) 1 ≡ y → (z : Bool) → ltb (b .value) 128 ≡ z
+                → (shortPair s at end ≡ 65535 → ⊥) × (shortPair s at end ≡ 0 → ⊥)
+            by-tests true et u eu y ey z ez = absurd (false≢true (rw (e, f, et) at short))
+            by-tests false et true eu y ey z ez = absurd (false≢true (rw (e, f, et, eu) at short))
+            by-tests false et false eu true ey z ez = absurd (false≢true (rw (e, f, et, eu, ey) at short))
+            by-tests false et false eu false ey false ez = absurd (false≢true (rw (e, f, et, eu, ey, ez) at short))
+            by-tests false et false eu false ey true ez =
+                let above-a = ltb-false (a .value) 1 et in
+                let above-b = ltb-false (b .value) 1 ey in
+                let below-b = ltb-true (b .value) 128 ez in
+                let number : shortPair s at end ≡ a .value + 256 * b .value =
+                rw (e, f, eu, le-ltb 127 (b .value) (omega arith), ne-eqb (a .value) 0 (λ h. omega (arith, h)), ne-eqb (b .value) 0 (λ h. omega (arith, h))) in
+                let below-a = ltb-false 127 (a .value) eu in
+                ((λ h. omega (arith, number, h)), λ h. omega (arith, number, h))
 
 -- where it ends, inside its part
 pub short-place : (s : List ℕ) (at end : ℕ) → (shortPair s at end ≡ 65535 → ⊥) → (at + 2 ≤ partEnd s end)

@@ -1,7 +1,7 @@
 -- The abbreviation table: document 01, "Abbreviations"; DWARF 5, section 6.1.1.4.7. `s` is the section, and the table is its part
 -- from `at` up to `end`.
 use Prim.Native.Nat.{ℕ, zero, suc, _+_, _-_, _*_}
-use mathlib.Core.Bool.{cond}
+use mathlib.Core.Bool.{Bool, false, cond}
 use mathlib.Core.List.{List, [], _∷_}
 use mathlib.Core.Option.{Option, some, none}
 use lib.Dec.{ltb, eqb}
@@ -137,6 +137,17 @@ shortPair s at end = orOther (do
   refuseIf (ltb 127 (b .value)) 0 0
   cond (eqb (a .value) 0) (demand (eqb (b .value) 0) 0 0) (refuseIf (eqb (b .value) 0) 0 0)
   answered (a .value + 256 * b .value))
+
+-- whether there are two bytes from 1 to 127: a short pair that is not 0 (`short-some`)
+abbrev orFalse : Outcome Bool → Bool
+orFalse (answered t) = t
+orFalse (refused n v) = false
+
+unfoldable pub isShort : List ℕ → ℕ → ℕ → Bool
+isShort s at end = orFalse (do
+  a ← readByte s at end
+  b ← readByte s (a .next) end
+  answered (cond (ltb (a .value) 1) false (cond (ltb 127 (a .value)) false (cond (ltb (b .value) 1) false (ltb (b .value) 128)))))
 
 -- the place past the pairs, and one declaration
 unfoldable pub attributesEnd : List ℕ → ℕ → ℕ → Outcome ℕ

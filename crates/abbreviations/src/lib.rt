@@ -6,7 +6,7 @@
 ghost use mathlib.Core.Path.{_≡_};
 ghost use Rattle.reader.specs.Answers.{skipOutcome};
 ghost use Rattle.abbreviations.specs.Answers.{attributeOutcome, headOutcome, declarationOutcome, tableOutcome, abbreviationOutcome};
-ghost use Rattle.abbreviations.specs.Abbreviations.{shortPair, pair, attributesEnd, head, declared, parsed, found};
+ghost use Rattle.abbreviations.specs.Abbreviations.{shortPair, isShort, pair, attributesEnd, head, declared, parsed, found};
 use reader::Error;
 use reader::Skipped;
 use reader::U8Read;
@@ -107,6 +107,30 @@ fn short_pair(s: &[u8], at: usize, end: usize) -> u16
     (a.value as u16) + 256 * (b.value as u16)
 }
 
+// Whether two bytes stand at `at` that are both from 1 to 127: a short pair that is not 0, and nearly every pair.
+fn is_short(s: &[u8], at: usize, end: usize) -> bool
+    ensures { λ r. ⌜ r ≡ isShort (now (s .entry)) at end ⌝ }
+{
+    let a = match read_u8(s, at, end) {
+        U8Read::Value(r) => r,
+        U8Read::Refused(_) => return false,
+    };
+    let b = match read_u8(s, a.next, end) {
+        U8Read::Value(r) => r,
+        U8Read::Refused(_) => return false,
+    };
+    if a.value < 1 {
+        return false;
+    }
+    if 127 < a.value {
+        return false;
+    }
+    if b.value < 1 {
+        return false;
+    }
+    b.value < 128
+}
+
 // The pair of name and form at `at`: (0, f) is refused with 5 and (n, 0) with 6.
 fn long_attribute(s: &[u8], at: usize, end: usize) -> AttributeRead
     ensures { λ r. ⌜ attributeOutcome r ≡ pair (now (s .entry)) at end ⌝ }
@@ -157,11 +181,12 @@ fn skip_attributes(s: &[u8], at: usize, end: usize) -> Skipped
 {
     let mut place = at;
     loop {
-        let two = short_pair(s, place, end);
-        if two == 0 {
-            return Skipped::To(place + 2);
-        }
-        if two == OTHER {
+        if is_short(s, place, end) {
+            place = place + 2;
+        } else {
+            if short_pair(s, place, end) == 0 {
+                return Skipped::To(place + 2);
+            }
             let a = match long_attribute(s, place, end) {
                 AttributeRead::Value(r) => r,
                 AttributeRead::Refused(e) => return Skipped::Refused(e),
@@ -170,8 +195,6 @@ fn skip_attributes(s: &[u8], at: usize, end: usize) -> Skipped
                 return Skipped::To(a.next);
             }
             place = a.next;
-        } else {
-            place = place + 2;
         }
     }
 }
