@@ -1,13 +1,13 @@
 // The counts of an index that fits its section.
 ghost use mathlib.Core.Path.{_≡_};
 ghost use Rattle.names.specs.Counts.{compileUnitCount, localTypeUnitCount, foreignTypeUnitCount, typeUnitCount, bucketCount, nameCount, hasHashTable};
-ghost use Rattle.boundary.specs.Handles.{indexFrom};
-ghost use Rattle.boundary.specs.Answers.{handed, countAnswer, flagAnswer};
-use boundary::Answer;
-use boundary::IndexHandle;
-use boundary::count_answer;
-use boundary::flag_answer;
-use boundary::index_of;
+ghost use Rattle.handles.specs.Handles.{indexFrom};
+ghost use Rattle.answers.specs.Answers.{handed, countAnswer, flagAnswer};
+use answers::Answer;
+use answers::count_answer;
+use answers::flag_answer;
+use handles::IndexHandle;
+use handles::index_of;
 use names::bucket_count;
 use names::compile_unit_count;
 use names::foreign_type_unit_count;

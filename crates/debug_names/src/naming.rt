@@ -2,20 +2,20 @@
 ghost use mathlib.Core.Path.{_≡_};
 ghost use Rattle.strings.specs.Strings.{getStr};
 ghost use Rattle.names.specs.Names.{nameStringOffset, nameString};
-ghost use Rattle.boundary.specs.Handles.{orderOf, indexFrom};
-ghost use Rattle.boundary.specs.Answers.{handed, strOffsetAnswer};
-ghost use Rattle.boundary.specs.Steps.{stringAnswer};
-use boundary::Answer;
-use boundary::IndexHandle;
-use boundary::StringAnswer;
-use boundary::index_of;
-use boundary::order_of;
-use boundary::str_offset_answer;
-use boundary::string_answer;
+ghost use Rattle.handles.specs.Handles.{orderOf, indexFrom};
+ghost use Rattle.answers.specs.Answers.{handed, strOffsetAnswer};
+ghost use Rattle.step_answers.specs.Steps.{stringAnswer};
+use answers::Answer;
+use answers::str_offset_answer;
+use handles::IndexHandle;
+use handles::index_of;
+use handles::order_of;
 use names::name_string;
 use names::name_string_offset;
 use reader::DebugStrOffset;
 use reader::NameTableIndex;
+use step_answers::StringAnswer;
+use step_answers::string_answer;
 use strings::DebugStr;
 
 // The .debug_str offset of a name's string.

@@ -2,21 +2,21 @@
 ghost use mathlib.Core.Path.{_≡_};
 ghost use Rattle.headers.specs.Headers.{headerStep};
 ghost use Rattle.index.specs.Open.{nameIndex};
-ghost use Rattle.boundary.specs.Handles.{orderOf, indexFrom, headerFor};
-ghost use Rattle.boundary.specs.Answers.{handed, openAnswer};
-ghost use Rattle.boundary.specs.Steps.{headerAnswer, headerFacts};
-use boundary::Answer;
-use boundary::HeaderAnswer;
-use boundary::HeaderFacts;
-use boundary::IndexHandle;
-use boundary::header_answer;
-use boundary::header_facts;
-use boundary::header_for;
-use boundary::index_of;
-use boundary::open_answer;
-use boundary::order_of;
+ghost use Rattle.handles.specs.Handles.{orderOf, indexFrom, headerFor};
+ghost use Rattle.answers.specs.Answers.{handed, openAnswer};
+ghost use Rattle.step_answers.specs.Steps.{headerAnswer, headerFacts};
+use answers::Answer;
+use answers::open_answer;
+use handles::IndexHandle;
+use handles::header_for;
+use handles::index_of;
+use handles::order_of;
 use headers::NameIndexHeaderIter;
 use index::NameIndex;
+use step_answers::HeaderAnswer;
+use step_answers::HeaderFacts;
+use step_answers::header_answer;
+use step_answers::header_facts;
 
 // The next header, from a cursor.
 #[no_mangle]

@@ -2,20 +2,20 @@
 // entry tells all of them.
 ghost use mathlib.Core.Path.{_≡_};
 ghost use Rattle.entries.specs.Series.{nameEntries};
-ghost use Rattle.boundary.specs.Handles.{orderOf, indexFrom};
-ghost use Rattle.boundary.specs.Answers.{handed, entriesAnswer};
-ghost use Rattle.boundary.specs.Entry.{entryAnswer, entryStepAnswer};
-use boundary::Answer;
-use boundary::EntryAnswer;
-use boundary::IndexHandle;
-use boundary::entries_answer;
-use boundary::entry_answer;
-use boundary::entry_step_answer;
-use boundary::index_of;
-use boundary::order_of;
+ghost use Rattle.handles.specs.Handles.{orderOf, indexFrom};
+ghost use Rattle.answers.specs.Answers.{handed, entriesAnswer};
+ghost use Rattle.entry_answers.specs.Entry.{entryAnswer, entryStepAnswer};
+use answers::Answer;
+use answers::entries_answer;
 use entries::NameEntryIter;
 use entries::name_entries;
 use entries::whole_entry;
+use entry_answers::EntryAnswer;
+use entry_answers::entry_answer;
+use entry_answers::entry_step_answer;
+use handles::IndexHandle;
+use handles::index_of;
+use handles::order_of;
 use reader::NameEntryOffset;
 use reader::NameTableIndex;
 

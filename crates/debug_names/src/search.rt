@@ -1,11 +1,11 @@
 // The section query (document 01, "The section query"): where the function or type of a name is described. The records are lent, and a
 // refused query leaves them as they are.
 ghost use mathlib.Core.Path.{_≡_};
-ghost use Rattle.boundary.specs.Handles.{orderOf};
-ghost use Rattle.boundary.specs.Query.{queryAnswer};
-use boundary::Answer;
-use boundary::order_of;
-use boundary::total_answer;
+ghost use Rattle.handles.specs.Handles.{orderOf};
+ghost use Rattle.debug_names.specs.Query.{queryAnswer};
+use answers::Answer;
+use answers::total_answer;
+use handles::order_of;
 use query::query;
 use records::Record;
 

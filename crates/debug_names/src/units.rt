@@ -1,16 +1,16 @@
 // The units of an index, by number (document 01, "Headers and layout").
 ghost use mathlib.Core.Path.{_≡_};
 ghost use Rattle.names.specs.Units.{compileUnit, localTypeUnit, foreignTypeUnit, typeUnit, defaultCompileUnit};
-ghost use Rattle.boundary.specs.Handles.{orderOf, indexFrom};
-ghost use Rattle.boundary.specs.Answers.{handed, unitAnswer, signatureAnswer, typeUnitAnswer, defaultUnitAnswer};
-use boundary::Answer;
-use boundary::IndexHandle;
-use boundary::default_unit_answer;
-use boundary::index_of;
-use boundary::order_of;
-use boundary::signature_answer;
-use boundary::type_unit_answer;
-use boundary::unit_answer;
+ghost use Rattle.handles.specs.Handles.{orderOf, indexFrom};
+ghost use Rattle.answers.specs.Answers.{handed, unitAnswer, signatureAnswer, typeUnitAnswer, defaultUnitAnswer};
+use answers::Answer;
+use answers::default_unit_answer;
+use answers::signature_answer;
+use answers::type_unit_answer;
+use answers::unit_answer;
+use handles::IndexHandle;
+use handles::index_of;
+use handles::order_of;
 use names::compile_unit;
 use names::default_compile_unit;
 use names::foreign_type_unit;

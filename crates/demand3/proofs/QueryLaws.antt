@@ -33,8 +33,9 @@ use Rattle.index_query.specs.Candidates.{candidates}
 use Rattle.index_query.specs.Matching.{textIs, nameMatches, matching}
 use Rattle.index_query.specs.Series.{recordOfEntry, seriesRecords}
 use Rattle.index_query.specs.Records.{allSeries, indexRecords}
-use Rattle.query.specs.Records.{headerRecords, headersLeft, sectionRecords}
-use Rattle.query.specs.Query.{unlessRefused, queried, written, sectionQuery}
+use Rattle.section_records.specs.Records.{headerRecords, headersLeft, sectionRecords}
+use Rattle.query_plan.specs.Plans.{unlessRefused, queried}
+use Rattle.query.specs.Query.{written, sectionQuery}
 use Rattle.demand3.specs.Expected.{OpenIndex, readsAs, stringMatches, hashMatches, nameIsMatch, matchingNames, recordsOfName, recordsOfIndex, expected}
 use Rattle.demand3.specs.Demand3.{Each, and-then, CompleteOrNoTable, QueryFinds, Demand3}
 use Rattle.demand3.proofs.HeaderLaws.{allOf, headers-all}

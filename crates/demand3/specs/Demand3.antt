@@ -31,8 +31,8 @@ use Rattle.tables.specs.declared.TableCheck.{TableCheck}
 use Rattle.tables.specs.Check.{checkOutcome, tableCheck}
 use Rattle.tables.specs.Demand3.{CompleteExactly}
 use Rattle.records.specs.declared.record.Record.{Record}
-use Rattle.query.specs.declared.fill.QueryRead.{QueryRead}
-use Rattle.query.specs.Answers.{queryOutcome}
+use Rattle.query_plan.specs.declared.QueryRead.{QueryRead}
+use Rattle.query_plan.specs.Answers.{queryOutcome}
 use Rattle.query.specs.Query.{sectionQuery}
 use Rattle.demand3.specs.Expected.{OpenIndex, expected}
 

@@ -18,7 +18,7 @@ use Rattle.reader.specs.Steps.{Step, keeping, no-steps, step-then, hasEnd}
 use Rattle.reader.specs.Listing.{Advances}
 use Rattle.reader.proofs.ListingLaws.{listing-step}
 use Rattle.reader.specs.declared.endianity.RunTimeEndian.{RunTimeEndian}
-use Rattle.reader.proofs.OutcomeLaws.{refused-answered, same-answer, bind-answered, then-answered, cond-is, bind-same, bind-both}
+use Rattle.reader.proofs.OutcomeLaws.{refused-answered, same-answer, bind-answered, answered-then, then-answered, cond-is, bind-same, bind-both}
 use Rattle.reader.proofs.PartLaws.{skip-answered, cut-answered, skip-part, slice-from}
 use Rattle.reader.proofs.NumberLaws.{read-forward, read-part, length-forward}
 use Rattle.headers.specs.declared.header.HeaderCut.{HeaderCut}
@@ -53,23 +53,39 @@ cut-forward order s at c e =
     let last : c .body .end ≡ part .end = ap (λ c. c .body .end) (sym (same-answer e₂)) in
     (omega arith, omega arith, omega arith)
 
--- the counts lie inside their part
-counts-inside : (order : RunTimeEndian) (s : List ℕ) (at end : ℕ) (n : Counts) → counts order s at end ≡ answered n → n .next ≤ partEnd s end
+-- and its offset is the header's place
+pub cut-offset : (order : RunTimeEndian) (s : List ℕ) (at : ℕ) (c : HeaderCut) → headerCut order s at ≡ answered c → c .offset .0 ≡ at
+unfolding headerCut
+cut-offset order s at c e =
+    let (l, read, e₁) = bind-answered (initialLength order s at (length s)) _ c e in
+    let (part, split, e₂) = bind-answered (cut (l .length) s (l .next) (length s)) _ c e₁ in
+    ap (λ c. c .offset .0) (sym (same-answer e₂))
+
+-- the counts are read forward, and lie inside their part
+counts-inside : (order : RunTimeEndian) (s : List ℕ) (at end : ℕ) (n : Counts) → counts order s at end ≡ answered n → (at ≤ n .next) × (n .next ≤ partEnd s end)
 unfolding counts
-counts-inside order s at end n e =
-    let (c, r, e) = bind-answered (readNumber 4 order s at end) _ n e in
-    let (l, r, e) = bind-answered (readNumber 4 order s (c .next) end) _ n e in
-    let (f, r, e) = bind-answered (readNumber 4 order s (l .next) end) _ n e in
-    let (b, r, e) = bind-answered (readNumber 4 order s (f .next) end) _ n e in
-    let (m, r, e) = bind-answered (readNumber 4 order s (b .next) end) _ n e in
-    let (a, r, e) = bind-answered (readNumber 4 order s (m .next) end) _ n e in
-    let (z, last, e) = bind-answered (readNumber 4 order s (a .next) end) _ n e in
-    let (ahead, inside) = read-forward 4 order s (a .next) end z (omega arith) last in
-    let past : n .next ≡ z .next = ap (λ n. n .next) (sym (same-answer e)) in
-    omega arith
+counts-inside order s at end n =
+    field at (omega arith) λ c past inside.
+    field (c .next) past λ l past inside.
+    field (l .next) past λ f past inside.
+    field (f .next) past λ b past inside.
+    field (b .next) past λ m past inside.
+    field (m .next) past λ a past inside.
+    field (a .next) past λ z past inside e.
+    let last : n .next ≡ z .next = ap (λ n. n .next) (sym (same-answer e)) in
+    (omega (arith, past, last), omega (arith, inside, last))
+  where
+    Inside : Type 0
+    Inside = (at ≤ n .next) × (n .next ≤ partEnd s end)
+
+    field : {f : Read → Outcome Counts} (from : ℕ) → at ≤ from → ((r : Read) → at ≤ r .next → r .next ≤ partEnd s end → f r ≡ answered n → Inside)
+        → (readNumber 4 order s from end >>= f) ≡ answered n → Inside
+    field {f = f} from past more = answered-then (readNumber 4 order s from end) f n Inside λ r read.
+        let (ahead, inside) = read-forward 4 order s from end r (omega arith) read in
+        more r (omega arith) inside
 
 -- so does the augmentation with its padding
-augmentation-inside : (size : ℕ) (s : List ℕ) (at end : ℕ) (a : ReadAugmentation) → at ≤ partEnd s end → augmentation size s at end ≡ answered a → a .next ≤ partEnd s end
+augmentation-inside : (size : ℕ) (s : List ℕ) (at end : ℕ) (a : ReadAugmentation) → at ≤ partEnd s end → augmentation size s at end ≡ answered a → (at ≤ a .next) × (a .next ≤ partEnd s end)
 unfolding augmentation
 augmentation-inside size s at end a h e = chosen (cond-is (eqb size 0) _ _ (answered a) e)
   where
@@ -79,20 +95,22 @@ augmentation-inside size s at end a h e = chosen (cond-is (eqb size 0) _ _ (answ
       next ← skipped (padding size) s (string .end) end
       answered (record { augmentation = Augmentation.Some (record { place = string .at; len = size }); next = next })
 
-    chosen : ((eqb size 0 ≡ true) × (answered (record { augmentation = Augmentation.None; next = at }) ≡ answered a)) ⊎ ((eqb size 0 ≡ false) × (rest ≡ answered a)) → a .next ≤ partEnd s end
+    chosen : ((eqb size 0 ≡ true) × (answered (record { augmentation = Augmentation.None; next = at }) ≡ answered a)) ⊎ ((eqb size 0 ≡ false) × (rest ≡ answered a))
+        → (at ≤ a .next) × (a .next ≤ partEnd s end)
     chosen (inl (zero-size, same)) =
         let past : a .next ≡ at = ap (λ a. a .next) (sym (same-answer same)) in
-        omega arith
+        (omega arith, omega arith)
     chosen (inr (some-size, on)) =
         let (string, split, e₁) = bind-answered (cut size s at end) _ a on in
         let (next, skip, e₂) = bind-answered (skipped (padding size) s (string .end) end) _ a e₁ in
+        let (begins, ends, within) = cut-answered size s at end string split in
         let (inside, place) = skip-answered (padding size) s (string .end) end next skip in
         let past : a .next ≡ next = ap (λ a. a .next) (sym (same-answer e₂)) in
-        omega arith
+        (omega arith, omega arith)
 
--- what the fields say: the index ends where its part ends, and its content begins inside
+-- what the fields say: the offset is that of the part that was cut out, the index ends where the part ends, and its content begins inside
 pub body-answered : (order : RunTimeEndian) (s : List ℕ) (c : HeaderCut) (h : NameIndexHeader) → headerBody order s c ≡ answered h
-    → (h .content .end ≡ c .body .end) × (h .content .at ≤ c .body .end)
+    → (h .offset .0 ≡ c .offset .0) × (h .content .end ≡ c .body .end) × (c .body .at ≤ h .content .at) × (h .content .at ≤ c .body .end)
 unfolding headerBody
 body-answered order s c h e =
     let end = c .body .end in
@@ -101,18 +119,33 @@ body-answered order s c h e =
     let (padded, skip, e₃) = bind-answered (skipped 2 s (version .next) end) _ h e₂ in
     let (n, counted, e₄) = bind-answered (counts order s padded end) _ h e₃ in
     let (a, read-a, e₅) = bind-answered (augmentation (n .«augmentation_string_size») s (n .next) end) _ h e₄ in
-    let inside = augmentation-inside (n .«augmentation_string_size») s (n .next) end a (counts-inside order s padded end n counted) read-a in
-    let ends : h .content .end ≡ c .body .end = ap (λ h. h .content .end) (sym (same-answer e₅)) in
-    let begins : h .content .at ≡ a .next = ap (λ h. h .content .at) (sym (same-answer e₅)) in
-    (ends, omega (arith, inside))
+    let (ahead, within) = read-forward 2 order s (c .body .at) end version (omega arith) read in
+    let (fits, place) = skip-answered 2 s (version .next) end padded skip in
+    let (counts-ahead, counts-within) = counts-inside order s padded end n counted in
+    let (past, inside) = augmentation-inside (n .«augmentation_string_size») s (n .next) end a counts-within read-a in
+    let begins : h .content .at ≡ a .next = ap (λ h. h .content .at) (sym (same-answer e₅)) in (
+      ap (λ h. h .offset .0) (sym (same-answer e₅)),
+      ap (λ h. h .content .end) (sym (same-answer e₅)),
+      omega (arith, ahead, place, counts-ahead, past, begins),
+      omega (arith, inside, begins),
+    )
 
 pub header-fits : HeadersFit
 unfolding header
 header-fits order s at h e =
     let (c, split, body) = bind-answered (headerCut order s at) _ h e in
     let (ahead, order, inside) = cut-forward order s at c split in
-    let (ends, begins) = body-answered _ s c h body in
+    let (offset, ends, begins, within) = body-answered _ s c h body in
     (omega arith, omega arith, omega arith)
+
+-- the content of a header begins past the header's place
+pub header-begins : (order : RunTimeEndian) (s : List ℕ) (at : ℕ) (h : NameIndexHeader) → header order s at ≡ answered h → at ≤ h .content .at
+unfolding header
+header-begins order s at h e =
+    let (c, split, body) = bind-answered (headerCut order s at) _ h e in
+    let (ahead, inside, within) = cut-forward order s at c split in
+    let (offset, ends, begins, fits) = body-answered order s c h body in
+    omega arith
 
 -- the step, by the outcomes of its tests and of reading the header
 abbrev stepBy : Bool → Bool → Bool → Outcome NameIndexHeader → List ℕ → NameIndexHeaderIter → Step NameIndexHeader NameIndexHeaderIter

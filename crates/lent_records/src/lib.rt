@@ -1,8 +1,8 @@
 // The section query for test programs: records that no query writes are lent to it, and are handed back with its answer, so that a case
 // sees which of them were written.
 ghost use Prim.Native.Nat.{_≤_};
-use query::QueryRead;
 use query::query;
+use query_plan::QueryRead;
 use reader::NameTableIndex;
 use reader::RunTimeEndian;
 use reader::UnitOffset;

@@ -11,7 +11,7 @@ use lent_records::Got;
 use lent_records::query4;
 use names::name_count;
 use names::name_string;
-use query::QueryRead;
+use query_plan::QueryRead;
 use reader::NameTableIndex;
 use reader::RunTimeEndian;
 use records::Record;

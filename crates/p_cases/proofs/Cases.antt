@@ -28,8 +28,9 @@ use Rattle.index_query.specs.Candidates.{candidates}
 use Rattle.index_query.specs.Matching.{sameBytes, textIs, nameMatches, matching}
 use Rattle.index_query.specs.Series.{recordOfEntry, seriesRecords}
 use Rattle.index_query.specs.Records.{allSeries, indexRecords}
-use Rattle.query.specs.Records.{headerRecords, headersLeft, sectionRecords}
-use Rattle.query.specs.Query.{queried, written, sectionQuery}
+use Rattle.section_records.specs.Records.{headerRecords, headersLeft, sectionRecords}
+use Rattle.query_plan.specs.Plans.{queried}
+use Rattle.query.specs.Query.{written, sectionQuery}
 use Rattle.p_cases.specs.CaseA.{caseA, stringsA, indexA, secondStart}
 use Rattle.p_cases.specs.Cases.{PCases}
 

@@ -32,8 +32,9 @@ use Rattle.index_query.specs.Candidates.{candidates}
 use Rattle.index_query.specs.Matching.{sameBytes, textIs, nameMatches, matching}
 use Rattle.index_query.specs.Series.{recordOfEntry, seriesRecords}
 use Rattle.index_query.specs.Records.{allSeries, indexRecords}
-use Rattle.query.specs.Records.{headerRecords, headersLeft, sectionRecords}
-use Rattle.query.specs.Query.{queried, written, sectionQuery}
+use Rattle.section_records.specs.Records.{headerRecords, headersLeft, sectionRecords}
+use Rattle.query_plan.specs.Plans.{queried}
+use Rattle.query.specs.Query.{written, sectionQuery}
 use Rattle.demand3.specs.Expected.{stringMatches, hashMatches, nameIsMatch, matchingNames, recordsOfName, recordsOfIndex, expected}
 use Rattle.demand3.specs.Demand3.{of-none, and-then}
 use Rattle.demand3.proofs.QueryLaws.{demand3}

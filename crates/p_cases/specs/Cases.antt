@@ -12,7 +12,7 @@ use Rattle.entries.specs.declared.entry.NameEntry.{NameEntry}
 use Rattle.entries.specs.Entries.{nameEntryHanded}
 use Rattle.hashes.specs.Table.{namesOfHash}
 use Rattle.tables.specs.Check.{Checked, complete, incomplete, tableCheck}
-use Rattle.query.specs.Query.{Queried}
+use Rattle.query_plan.specs.Plans.{Queried}
 use Rattle.p_cases.specs.CaseA.{caseA, indexA, secondStart}
 use Rattle.p_cases.specs.Queries.{queryOfA, foundInA}
 

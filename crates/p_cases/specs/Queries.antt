@@ -11,7 +11,8 @@ use Rattle.headers.specs.declared.header.Augmentation.{Augmentation}
 use Rattle.headers.specs.declared.header.NameIndexHeader.{NameIndexHeader}
 use Rattle.index.specs.declared.layout.NameIndex.{NameIndex}
 use Rattle.records.specs.declared.record.Record.{Record}
-use Rattle.query.specs.Query.{Queried, sectionQuery}
+use Rattle.query_plan.specs.Plans.{Queried}
+use Rattle.query.specs.Query.{sectionQuery}
 use Rattle.demand3.specs.Expected.{OpenIndex, expected}
 use Rattle.demand3.specs.Demand3.{Each, AllOpen, CompleteOrNoTable}
 use Rattle.reader.specs.Steps.{ListsInOrder}

@@ -1,7 +1,3 @@
--- Laws of the definitions. Callers cite these, and do not unfold.
+-- What the walk of `query` uses.
 pub mod After
 pub mod Runs
-pub mod HeaderLaws
-pub mod WalkLaws
-pub mod BoundLaws
-pub mod FillLaws

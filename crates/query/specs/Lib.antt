@@ -1,6 +1,2 @@
--- The section query. Records: the records of a section. Query: what the query answers and writes. Answers: what each answer of the code leaves.
--- Sanity: what a reader of the definitions may want to be sure of.
-pub mod Records
+-- Query: what the query answers, and the records that it is lent at exit.
 pub mod Query
-pub mod Answers
-pub mod Sanity

@@ -5,7 +5,7 @@ use crate::sections;
 use lent_records::Got;
 use lent_records::old;
 use lent_records::query_room;
-use query::QueryRead;
+use query_plan::QueryRead;
 use reader::RunTimeEndian;
 use records::Record;
 

@@ -47,27 +47,28 @@ use denote.Struct.Laws as LL
 use denote.Enum.Laws as EL
 use Rattle.reader.specs.declared.endianity.RunTimeEndian.{RunTimeEndian}
 use Rattle.records.specs.declared.record.Record.{Record}
-use Rattle.query.specs.declared.fill.QueryRead.{QueryRead}
-use Rattle.query.specs.Query.{Queried, sectionQuery}
-use Rattle.query.specs.Answers.{queryOutcome}
+use Rattle.query_plan.specs.declared.QueryRead.{QueryRead}
+use Rattle.query_plan.specs.Plans.{Queried}
+use Rattle.query.specs.Query.{sectionQuery}
+use Rattle.query_plan.specs.Answers.{queryOutcome}
 use Rattle.lent_records.specs.declared.Got.{Got}
 use Rattle.lent_records.proofs.LentArray.{value, Kept, lends-front, front-back}
 use Rattle.reader.proofs.endianity.RunTimeEndian as O
 use Rattle.reader.proofs.endianity.RunTimeEndian.Laws as O′
 use Rattle.records.proofs.record.Record as T
 use Rattle.records.proofs.record.Record.Laws as T′
-use Rattle.query.proofs.fill.QueryRead as F
-use Rattle.query.proofs.fill.QueryRead.Laws as F′
+use Rattle.query_plan.proofs.QueryRead as F
+use Rattle.query_plan.proofs.QueryRead.Laws as F′
 use Rattle.lent_records.proofs.Got as G
 use Rattle.lent_records.proofs.Got.Laws as G′
 use Rattle.lent_records.proofs.old4 as old4
 use Rattle.lent_records.proofs.old4.Symbol as old4-def
 use Rattle.lent_records.proofs.old4.Symbol.{name as #old4}
 use Rattle.lent_records.proofs.old4.Met as old4-thm
-use Rattle.query.proofs.fill.query as query
-use Rattle.query.proofs.fill.query.Symbol as query-def
-use Rattle.query.proofs.fill.query.Symbol.{name as #query}
-use Rattle.query.proofs.fill.query.Met as query-thm
+use Rattle.query.proofs.query as query
+use Rattle.query.proofs.query.Symbol as query-def
+use Rattle.query.proofs.query.Symbol.{name as #query}
+use Rattle.query.proofs.query.Met as query-thm
 use Rattle.lent_records.proofs.as_got as as-got
 use Rattle.lent_records.proofs.as_got.Symbol as as-got-def
 use Rattle.lent_records.proofs.as_got.Symbol.{name as #as-got}
@@ -379,5 +380,5 @@ query-room-spec 𝓤 H 𝓜 𝓖 𝓡 =
     (tables 𝓤 H 𝓜 𝓡 code.env .C) (tables 𝓤 H 𝓜 𝓡 code.env .Λ) #query-room code.function (code.unfolded 𝓤 H 𝓜 𝓡)
     (query-room-meets 𝓤 H (𝓖 .A) (givenOf 𝓤 H 𝓜 𝓖) (𝓜 .mem) (𝓡 .run) (tablesOf 𝓤 H 𝓜 (tables 𝓤 H 𝓜 𝓡 code.env))
     (cited 𝓤 H (Old4 𝓤 H (𝓖 .A) (𝓜 .mem) (𝓡 .run)) 𝓜 𝓡 code.env #old4 old4-def.routine code.calls-lent-records·old4 (old4-thm.met 𝓤 H 𝓜 𝓖 𝓡))
-    (cited 𝓤 H (Query 𝓤 H (𝓖 .A) (𝓜 .mem) (𝓡 .run)) 𝓜 𝓡 code.env #query query-def.routine code.calls-query·fill·query (query-thm.met 𝓤 H 𝓜 𝓖 𝓡))
+    (cited 𝓤 H (Query 𝓤 H (𝓖 .A) (𝓜 .mem) (𝓡 .run)) 𝓜 𝓡 code.env #query query-def.routine code.calls-query·query (query-thm.met 𝓤 H 𝓜 𝓖 𝓡))
     (cited 𝓤 H (AsGot 𝓤 H (𝓖 .A) (𝓜 .mem) (𝓡 .run)) 𝓜 𝓡 code.env #as-got as-got-def.routine code.calls-lent-records·as-got (as-got-thm.met 𝓤 H 𝓜 𝓖 𝓡)))

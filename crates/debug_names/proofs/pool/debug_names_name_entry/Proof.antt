@@ -1,7 +1,7 @@
 -- `debug_names::pool::debug_names_name_entry` meets its contract: the entry was read whole, and tells what its handle tells (`entry-whole`).
 -- Assumes nothing.
 use borrow.Author.Needs.{needs}
-use Rattle.boundary.proofs.BoundaryLaws.{entry-whole}
+use Rattle.entry_answers.proofs.WholeLaws.{entry-whole}
 use Rattle.debug_names.proofs.pool.debug_names_name_entry.Statement.{statement}
 use Rattle.debug_names.proofs.pool.debug_names_name_entry.Tie as tie
 

@@ -1,7 +1,7 @@
 -- `debug_names::pool::debug_names_next_entry` meets its contract: the step read the entry whole, and that tells what its handle tells (`step-whole`).
 -- Assumes nothing.
 use borrow.Author.Needs.{needs}
-use Rattle.boundary.proofs.BoundaryLaws.{step-whole}
+use Rattle.entry_answers.proofs.WholeLaws.{step-whole}
 use Rattle.debug_names.proofs.pool.debug_names_next_entry.Statement.{statement}
 use Rattle.debug_names.proofs.pool.debug_names_next_entry.Tie as tie
 

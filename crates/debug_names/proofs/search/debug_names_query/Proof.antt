@@ -43,32 +43,33 @@ use denote.Struct.Laws as LL
 use denote.Enum.Laws as EL
 use Rattle.reader.specs.declared.endianity.RunTimeEndian.{RunTimeEndian}
 use Rattle.records.specs.declared.record.Record.{Record}
-use Rattle.query.specs.declared.fill.QueryRead.{QueryRead}
-use Rattle.query.specs.Query.{Queried, sectionQuery}
-use Rattle.query.specs.Answers.{queryOutcome}
-use Rattle.boundary.specs.declared.answers.Answer.{Answer}
-use Rattle.boundary.specs.Answers.{countAnswer, handed}
-use Rattle.boundary.specs.Handles.{orderOf}
-use Rattle.boundary.specs.Query.{QueryHanded, queryAnswer}
+use Rattle.query_plan.specs.declared.QueryRead.{QueryRead}
+use Rattle.query_plan.specs.Plans.{Queried}
+use Rattle.query.specs.Query.{sectionQuery}
+use Rattle.query_plan.specs.Answers.{queryOutcome}
+use Rattle.answers.specs.declared.Answer.{Answer}
+use Rattle.answers.specs.Answers.{countAnswer, handed}
+use Rattle.handles.specs.Handles.{orderOf}
+use Rattle.debug_names.specs.Query.{QueryHanded, queryAnswer}
 use Rattle.reader.proofs.endianity.RunTimeEndian as O
 use Rattle.reader.proofs.endianity.RunTimeEndian.Laws as O′
 use Rattle.records.proofs.record.Record as T
-use Rattle.query.proofs.fill.QueryRead as F
-use Rattle.query.proofs.fill.QueryRead.Laws as F′
-use Rattle.boundary.proofs.answers.Answer as B
-use Rattle.boundary.proofs.answers.Answer.Laws as B′
-use Rattle.boundary.proofs.handles.order_of as order-of
-use Rattle.boundary.proofs.handles.order_of.Symbol as order-of-def
-use Rattle.boundary.proofs.handles.order_of.Symbol.{name as #order-of}
-use Rattle.boundary.proofs.handles.order_of.Met as order-of-thm
-use Rattle.query.proofs.fill.query as query
-use Rattle.query.proofs.fill.query.Symbol as query-def
-use Rattle.query.proofs.fill.query.Symbol.{name as #query}
-use Rattle.query.proofs.fill.query.Met as query-thm
-use Rattle.boundary.proofs.answers.total_answer as total-answer
-use Rattle.boundary.proofs.answers.total_answer.Symbol as total-answer-def
-use Rattle.boundary.proofs.answers.total_answer.Symbol.{name as #total-answer}
-use Rattle.boundary.proofs.answers.total_answer.Met as total-answer-thm
+use Rattle.query_plan.proofs.QueryRead as F
+use Rattle.query_plan.proofs.QueryRead.Laws as F′
+use Rattle.answers.proofs.Answer as B
+use Rattle.answers.proofs.Answer.Laws as B′
+use Rattle.handles.proofs.order_of as order-of
+use Rattle.handles.proofs.order_of.Symbol as order-of-def
+use Rattle.handles.proofs.order_of.Symbol.{name as #order-of}
+use Rattle.handles.proofs.order_of.Met as order-of-thm
+use Rattle.query.proofs.query as query
+use Rattle.query.proofs.query.Symbol as query-def
+use Rattle.query.proofs.query.Symbol.{name as #query}
+use Rattle.query.proofs.query.Met as query-thm
+use Rattle.answers.proofs.total_answer as total-answer
+use Rattle.answers.proofs.total_answer.Symbol as total-answer-def
+use Rattle.answers.proofs.total_answer.Symbol.{name as #total-answer}
+use Rattle.answers.proofs.total_answer.Met as total-answer-thm
 use Rattle.debug_names.proofs.search.debug_names_query.Key.{name as #debug-names-query}
 use Rattle.debug_names.proofs.search.debug_names_query as f
 use Rattle.debug_names.proofs.search.debug_names_query.Statement as stated
@@ -322,6 +323,6 @@ debug-names-query-spec 𝓤 H 𝓜 𝓖 𝓡 =
     entered 𝓤 H (tripleOf 𝓤 H (𝓖 .A) f.signature (f.spec 𝓤 H (𝓖 .A) (𝓜 .mem) (𝓡 .run)))
     (tables 𝓤 H 𝓜 𝓡 code.env .C) (tables 𝓤 H 𝓜 𝓡 code.env .Λ) #debug-names-query code.function (code.unfolded 𝓤 H 𝓜 𝓡)
     (debug-names-query-meets 𝓤 H (𝓖 .A) (givenOf 𝓤 H 𝓜 𝓖) (𝓜 .mem) (𝓡 .run) (tablesOf 𝓤 H 𝓜 (tables 𝓤 H 𝓜 𝓡 code.env))
-    (cited 𝓤 H (OrderOf 𝓤 H (𝓖 .A) (𝓜 .mem) (𝓡 .run)) 𝓜 𝓡 code.env #order-of order-of-def.routine code.calls-boundary·handles·order-of (order-of-thm.met 𝓤 H 𝓜 𝓖 𝓡))
-    (cited 𝓤 H (Query 𝓤 H (𝓖 .A) (𝓜 .mem) (𝓡 .run)) 𝓜 𝓡 code.env #query query-def.routine code.calls-query·fill·query (query-thm.met 𝓤 H 𝓜 𝓖 𝓡))
-    (cited 𝓤 H (TotalAnswer 𝓤 H (𝓖 .A) (𝓜 .mem) (𝓡 .run)) 𝓜 𝓡 code.env #total-answer total-answer-def.routine code.calls-boundary·answers·total-answer (total-answer-thm.met 𝓤 H 𝓜 𝓖 𝓡)))
+    (cited 𝓤 H (OrderOf 𝓤 H (𝓖 .A) (𝓜 .mem) (𝓡 .run)) 𝓜 𝓡 code.env #order-of order-of-def.routine code.calls-handles·order-of (order-of-thm.met 𝓤 H 𝓜 𝓖 𝓡))
+    (cited 𝓤 H (Query 𝓤 H (𝓖 .A) (𝓜 .mem) (𝓡 .run)) 𝓜 𝓡 code.env #query query-def.routine code.calls-query·query (query-thm.met 𝓤 H 𝓜 𝓖 𝓡))
+    (cited 𝓤 H (TotalAnswer 𝓤 H (𝓖 .A) (𝓜 .mem) (𝓡 .run)) 𝓜 𝓡 code.env #total-answer total-answer-def.routine code.calls-answers·total-answer (total-answer-thm.met 𝓤 H 𝓜 𝓖 𝓡)))

@@ -1,0 +1,60 @@
+-- `answers::check_answer` meets its contract: each answer is the definition's, by the calls and the tests that led there.
+-- Assumes nothing.
+use borrow.Author.Needs.{needs}
+use Rattle.answers.proofs.check_answer.Statement.{statement}
+use Rattle.answers.proofs.check_answer.Tie as tie
+
+enum-told : tie.Need-enum-told
+enum-told c = search needs
+
+enum-told-2 : tie.Need-enum-told-2
+enum-told-2 c = search needs
+
+enum-known-r : tie.Need-enum-known-r
+enum-known-r c = search needs
+
+cast-t5 : tie.Need-cast-t5
+cast-t5 c = search needs
+
+enum-known-r-2 : tie.Need-enum-known-r-2
+enum-known-r-2 c = search needs
+
+refused-requires : tie.Need-refused-requires
+refused-requires c κs = search needs
+
+returns : tie.Need-returns
+returns c =
+    rw
+    (c .enum-told .given .1)
+
+returns-2 : tie.Need-returns-2
+returns-2 c =
+    rw
+    (c .enum-told2 .given .1)
+
+returns-3 : tie.Need-returns-3
+returns-3 c =
+    rw
+    (c .before .before .r .given .1)
+
+returns-4 : tie.Need-returns-4
+returns-4 c =
+    rw (
+      c .before .before .r2 .given .1,
+      ← c .refused .ensures,
+    )
+
+pub check-answer-spec : {M : Type 1} → statement M
+check-answer-spec =
+    tie.close
+    (tie.spec
+    enum-told
+    enum-told-2
+    enum-known-r
+    cast-t5
+    enum-known-r-2
+    refused-requires
+    returns
+    returns-2
+    returns-3
+    returns-4)

@@ -1,0 +1,54 @@
+-- `answers::default_unit_answer` meets its contract: each answer is the definition's, by the calls and the tests that led there.
+-- Assumes nothing.
+use borrow.Author.Needs.{needs}
+use Rattle.answers.proofs.default_unit_answer.Statement.{statement}
+use Rattle.answers.proofs.default_unit_answer.Tie as tie
+
+enum-known-r : tie.Need-enum-known-r
+enum-known-r c = search needs
+
+enum-known-r-2 : tie.Need-enum-known-r-2
+enum-known-r-2 c = search needs
+
+refused-requires : tie.Need-refused-requires
+refused-requires c κs = search needs
+
+returns : tie.Need-returns
+returns c =
+    rw (
+      c .before .before .r2 .given .1,
+      ← c .refused .ensures,
+    )
+
+enum-known-unit : tie.Need-enum-known-unit
+enum-known-unit c = search needs
+
+enum-told : tie.Need-enum-told
+enum-told c = search needs
+
+returns-2 : tie.Need-returns-2
+returns-2 c =
+    rw (
+      c .before .before .before .before .r .given .1,
+      c .before .unit .given .1,
+    )
+
+returns-3 : tie.Need-returns-3
+returns-3 c =
+    rw (
+      c .before .before .before .r .given .1,
+      c .enum-told .given .1,
+    )
+
+pub default-unit-answer-spec : {M : Type 1} → statement M
+default-unit-answer-spec =
+    tie.close
+    (tie.spec
+    enum-known-r
+    enum-known-r-2
+    refused-requires
+    returns
+    enum-known-unit
+    enum-told
+    returns-2
+    returns-3)

@@ -1,0 +1,2 @@
+-- Answers: outcomes as answers of one number.
+pub mod Answers

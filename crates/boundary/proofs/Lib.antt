@@ -1,2 +1,0 @@
--- Laws of the definitions. Callers cite these, and do not unfold.
-pub mod BoundaryLaws

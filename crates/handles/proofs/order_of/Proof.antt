@@ -1,0 +1,21 @@
+-- `handles::order_of` meets its contract: each answer is the definition's, by the calls and the tests that led there.
+-- Assumes nothing.
+use borrow.Author.Tests.{eq-eqb, ne-eqb}
+use Rattle.handles.specs.Handles.{orderOf}
+use Rattle.handles.proofs.order_of.Statement.{statement}
+use Rattle.handles.proofs.order_of.Tie as tie
+
+returns : tie.Need-returns
+unfolding orderOf
+returns c =
+    rw
+    (eq-eqb _ _ (c .if1 .taken))
+
+returns-2 : tie.Need-returns-2
+unfolding orderOf
+returns-2 c =
+    rw
+    (ne-eqb _ _ (c .if1 .left))
+
+pub order-of-spec : {M : Type 1} → statement M
+order-of-spec = tie.close (tie.spec returns returns-2)

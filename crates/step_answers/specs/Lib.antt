@@ -1,0 +1,2 @@
+-- Steps: outcomes as answers of more than one number.
+pub mod Steps
