@@ -1,4 +1,5 @@
--- The section query, as it is handed over: document 01, "The section query". `s` is .debug_names, and `strs` is .debug_str.
+-- The section query, as it is handed over: document 01, "The section query". `s` is .debug_names and `strs` is .debug_str;
+-- `name` has the bytes of the name that is asked for.
 use Prim.Native.Nat.{ℕ}
 use mathlib.Core.List.{List}
 use Rattle.reader.specs.declared.endianity.RunTimeEndian.{RunTimeEndian}

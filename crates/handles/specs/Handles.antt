@@ -1,4 +1,4 @@
--- What a caller's numbers stand for: a byte order, an index, a hash cursor.
+-- What a caller's numbers stand for, a byte order, an index or a hash cursor, and the numbers in which an index and a hash cursor are handed over.
 use Prim.Native.Nat.{ℕ}
 use mathlib.Core.Bool.{cond}
 use lib.Dec.{eqb}
@@ -92,7 +92,7 @@ cursorIn hash (BucketIter.Some b) = record { hash = hash; «has_bucket» = 1; bu
 unfoldable pub cursorFrom : NameHashIter → HashCursor
 cursorFrom c = cursorIn (c .hash) (c .«bucket_iter»)
 
--- where there is no index, and no lookup, every number is 0
+-- where there is no index or no cursor to hand over, every number is 0
 unfoldable pub noHandle : IndexHandle
 noHandle = record {
   begin = 0;

@@ -1,3 +1,3 @@
--- What a caller hands in. Handles: what a caller's numbers stand for. Sanity: what is proved of that.
+-- Handles: what a caller's numbers stand for, and the numbers in which an index and a cursor are handed over. Sanity: what is proved of these.
 pub mod Handles
 pub mod Sanity

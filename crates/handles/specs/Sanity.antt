@@ -27,6 +27,6 @@ HandlesDescribe = (h : NameIndexHeader) → indexFrom (handleOf h) ≡ indexOf h
 abbrev pub OpensTheSame : Type 0
 OpensTheSame = (s : List ℕ) (h : NameIndexHeader) → nameIndex s (headerFor (indexFrom (handleOf h))) ≡ nameIndex s h
 
--- a hash cursor comes back as it was handed over
+-- the numbers in which a hash cursor is handed over stand for that cursor
 abbrev pub CursorsComeBack : Type 0
 CursorsComeBack = (c : NameHashIter) → iterFrom (cursorFrom c) ≡ c

@@ -1,2 +1,2 @@
--- Query: what the query answers, and the records that it is lent at exit.
+-- Query: what the query answers, and the records that it was lent, as they are at exit.
 pub mod Query

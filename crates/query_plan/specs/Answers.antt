@@ -1,4 +1,4 @@
--- The outcome that each answer of the code stands for, and what each step leaves to write.
+-- The outcome that each answer of the code stands for, and, for a step, the record that was given followed by those that are left to write.
 use Prim.Native.Nat.{ℕ}
 use mathlib.Core.List.{List, [], _∷_}
 use Rattle.reader.specs.Outcome.{Outcome, answered}

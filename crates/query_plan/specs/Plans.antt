@@ -1,5 +1,5 @@
--- What a query answers, and what there is to write. `s` is .debug_names and `strs` is .debug_str; `text` has the bytes of the name that is
--- asked for.
+-- What a query answers, and what there is to write: document 01, "The section query". `s` is .debug_names and `strs` is .debug_str; `text` has
+-- the bytes of the name that is asked for.
 use Prim.Native.Nat.{ℕ}
 use mathlib.Core.Bool.{false, cond}
 use mathlib.Core.List.{List, [], _∷_}
@@ -13,7 +13,7 @@ use Rattle.query_plan.specs.declared.QueryRead.{QueryRead}
 use Rattle.query_plan.specs.declared.Writing.{Writing}
 use Rattle.query_plan.specs.declared.Plan.{Plan}
 
--- what a query answers, its total or the refusal, and records: those to write, or those lent as they are at exit
+-- what a query answers, its total or the refusal, and records: here those to write; of `query` those that it was lent, as they are at exit
 pub record Queried : Type 0 where
   pub answer : Outcome ℕ
   pub records : List Record

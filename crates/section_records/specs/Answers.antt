@@ -1,4 +1,4 @@
--- What each answer of the code leaves: what was answered, followed by what its cursor has left.
+-- What each answer of the code leaves: what was answered, if anything, followed by what its cursor has left.
 use Prim.Native.Nat.{ℕ, _<_, _≤_}
 use lib.ListN.{length}
 use mathlib.Core.List.{List}

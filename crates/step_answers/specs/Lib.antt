@@ -1,2 +1,2 @@
--- Steps: outcomes as answers of more than one number.
+-- Steps: headers, strings, and the lookups over buckets and hashes with their steps, as they are handed over.
 pub mod Steps
