@@ -1,5 +1,5 @@
 -- Laws of headers: padding, what an answered header says, and that steps move forward.
-use Prim.Native.Nat.{ℕ, _+_, _-_, _/_, _≤_, _<_}
+use Prim.Native.Nat.{ℕ, zero, suc, _+_, _-_, _/_, _%_, _≤_, _<_}
 use mathlib.Core.Path.{_≡_, refl, sym, ap, _∙_}
 use mathlib.Core.Bool.{Bool, true, false, cond}
 use mathlib.Core.Logic.{_⊎_, inl, inr}
@@ -27,18 +27,31 @@ use Rattle.headers.specs.declared.header.Augmentation.{Augmentation}
 use Rattle.headers.specs.declared.header.ReadAugmentation.{ReadAugmentation}
 use Rattle.headers.specs.declared.header.NameIndexHeader.{NameIndexHeader}
 use Rattle.headers.specs.declared.headers.NameIndexHeaderIter.{NameIndexHeaderIter}
-use Rattle.headers.specs.Header.{headerCut, counts, padding, augmentation, headerBody, header}
+use Rattle.headers.specs.Header.{headerCut, counts, paddingFor, padding, augmentation, headerBody, header}
 use Rattle.headers.specs.Answers.{headerStepOf}
 use Rattle.headers.specs.Headers.{afterHeader, headerStep, headerAt, headersFrom}
-use Rattle.headers.specs.Sanity.{PaddingFills, PaddingLeast, HeadersFit, StepsForward, WalksEnd, HeadersUnfold, BodiesInPart}
+use Rattle.headers.specs.Sanity.{PaddingSum, PaddingFills, PaddingLeast, PaddingComputed, HeadersFit, StepsForward, WalksEnd, HeadersUnfold, BodiesInPart}
+
+pub padding-sum : PaddingSum
+unfolding padding paddingFor
+padding-sum size = by-remainder (size % 4) (omega arith)
+  where
+    by-remainder : (remainder : ℕ) → remainder < 4 → paddingFor remainder ≡ (4 - remainder) % 4
+    by-remainder zero h = refl
+    by-remainder (suc zero) h = refl
+    by-remainder (suc (suc zero)) h = refl
+    by-remainder (suc (suc (suc zero))) h = refl
+    by-remainder (suc (suc (suc (suc more)))) h = absurd (omega arith)
 
 pub padding-fills : PaddingFills
-unfolding padding
-padding-fills size = ((size + 3) / 4, omega arith)
+padding-fills size = ((size + 3) / 4, rw (padding-sum size) (omega arith))
 
 pub padding-least : PaddingLeast
-unfolding padding
-padding-least size n m e = omega arith
+padding-least size n m e = rw (padding-sum size) (omega arith)
+
+pub padding-computed : PaddingComputed
+unfolding padding paddingFor
+padding-computed = refl
 
 -- the part that is cut out lies past the header's place and inside the section
 pub cut-forward : (order : RunTimeEndian) (s : List ℕ) (at : ℕ) (c : HeaderCut) → headerCut order s at ≡ answered c

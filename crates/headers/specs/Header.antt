@@ -1,5 +1,5 @@
 -- The header of an index: document 01, "Headers and layout"; DWARF 5, section 6.1.1.4.1, a line a field. `s` is the section.
-use Prim.Native.Nat.{ℕ, _-_, _%_}
+use Prim.Native.Nat.{ℕ, _%_}
 use mathlib.Core.Bool.{cond}
 use mathlib.Core.List.{List}
 use lib.ListN.{length}
@@ -47,11 +47,22 @@ counts order s at end = do
     next = augmentationSize .next;
   })
 
--- the fewest bytes that bring a size to a multiple of 4 (`padding-fills`, `padding-least`)
-unfoldable pub padding : ℕ → ℕ
-padding size = (4 - size % 4) % 4
+-- the bytes that are skipped behind an augmentation, by the remainder of its size by 4 (document 02, No. 4): 0 skips 0, 1 skips 3, 2 skips 2,
+-- 3 skips 1. DWARF 5 counts them in the size; gimli does not, and so it is here (docs/DIFFERENCES.md)
+unfoldable pub paddingFor : ℕ → ℕ
+paddingFor remainder =
+    cond (eqb remainder 0) 0
+    (cond (eqb remainder 1) 3
+    (cond (eqb remainder 2) 2
+    -- the remainder is 3
+    1))
 
--- the augmentation: none of size 0; else its place and length, and the place past its padding
+-- the padding of a size: the fewest bytes that bring it to a multiple of 4 (`PaddingFills` and `PaddingLeast` of Sanity). The field that DWARF 5
+-- calls padding is another, the two bytes behind the version
+unfoldable pub padding : ℕ → ℕ
+padding size = paddingFor (size % 4)
+
+-- the augmentation: none if the size is 0; else its place and length, and the place past its padding
 unfoldable pub augmentation : ℕ → List ℕ → ℕ → ℕ → Outcome ReadAugmentation
 augmentation size s at end = cond (eqb size 0) (answered (record { augmentation = Augmentation.None; next = at })) (do
   string ← cut size s at end

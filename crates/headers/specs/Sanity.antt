@@ -1,9 +1,9 @@
 -- What a reader of the definitions, and the crates above, may want to be sure of. The laws of proofs/HeaderLaws.antt that have these
 -- types prove them.
-use Prim.Native.Nat.{ℕ, _+_, _-_, _*_, _≤_, _<_}
+use Prim.Native.Nat.{ℕ, _+_, _-_, _*_, _%_, _≤_, _<_}
 use mathlib.Core.Path.{_≡_}
 use mathlib.Core.Bool.{true}
-use mathlib.Core.List.{List, map}
+use mathlib.Core.List.{List, [], _∷_, map}
 use mathlib.Core.Option.{some}
 use lib.ListN.{length}
 use lib.Seq.{slice}
@@ -20,12 +20,20 @@ use Rattle.headers.specs.Header.{padding, headerBody, header}
 use Rattle.headers.specs.Headers.{headerStep, headerAt, headersFrom}
 use Rattle.headers.specs.Answers.{headerStepOf}
 
--- the padding brings a size to a multiple of 4, and no smaller number does
+-- for every size the four cases skip what gimli's formula `(4 - (size & 3)) & 3` does: `& 3` is the remainder by 4
+abbrev pub PaddingSum : Type 0
+PaddingSum = (size : ℕ) → padding size ≡ (4 - size % 4) % 4
+
+-- so the padding brings a size to a multiple of 4 (`PaddingFills`), and no smaller number does (`PaddingLeast`)
 abbrev pub PaddingFills : Type 0
 PaddingFills = (size : ℕ) → (m : ℕ) × (size + padding size ≡ 4 * m)
 
 abbrev pub PaddingLeast : Type 0
 PaddingLeast = (size n m : ℕ) → size + n ≡ 4 * m → padding size ≤ n
+
+-- computed, the padding of the sizes 0 to 8, and of the largest that 4 bytes spell
+abbrev pub PaddingComputed : Type 0
+PaddingComputed = map padding (0 ∷ 1 ∷ 2 ∷ 3 ∷ 4 ∷ 5 ∷ 6 ∷ 7 ∷ 8 ∷ 4294967295 ∷ []) ≡ 0 ∷ 3 ∷ 2 ∷ 1 ∷ 0 ∷ 3 ∷ 2 ∷ 1 ∷ 0 ∷ 1 ∷ []
 
 -- a header fits the section that it was read from, and its index ends past its place
 abbrev pub HeadersFit : Type 0

@@ -165,11 +165,18 @@ fn read_counts(order: RunTimeEndian, s: &[u8], at: usize, end: usize) -> CountsR
     })
 }
 
-// The bytes that bring a size to a multiple of 4.
+// The bytes that bring a size to a multiple of 4, by its remainder.
 fn padding_of(size: u32) -> usize
     ensures { λ r. ⌜ r ≡ padding size ⌝ }
 {
-    ((4 - size % 4) % 4) as usize
+    let remainder = size % 4;
+    match remainder {
+        0 => 0,
+        1 => 3,
+        2 => 2,
+        // The remainder is 3.
+        _ => 1,
+    }
 }
 
 // The augmentation of a size, passed over with its padding.
