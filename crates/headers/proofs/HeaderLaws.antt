@@ -30,7 +30,11 @@ use Rattle.headers.specs.declared.headers.NameIndexHeaderIter.{NameIndex
 use Rattle.headers.specs.Header.{headerCut, counts, paddingFor, padding, augmentation, headerBody, header}
 use Rattle.headers.specs.Answers.{headerStepOf}
 use Rattle.headers.specs.Headers.{afterHeader, headerStep, headerAt, headersFrom}
-use Rattle.headers.specs.Sanity.{PaddingSum, PaddingFills, PaddingLeast, PaddingComputed, HeadersFit, StepsForward, WalksEnd, HeadersUnfold, BodiesInPart}
+use Rattle.headers.specs.Sanity.{PaddingCases, PaddingSum, PaddingFills, PaddingLeast, PaddingComputed, HeadersFit, StepsForward, WalksEnd, HeadersUnfold, BodiesInPart}
+
+pub padding-cases : PaddingCases
+unfolding padding paddingFor
+padding-cases size = (λ e. rw e, λ e. rw e, λ e. rw e, λ e. rw e)
 
 pub padding-sum : PaddingSum
 unfolding padding paddingFor

@@ -47,8 +47,8 @@ counts order s at end = do
     next = augmentationSize .next;
   })
 
--- the bytes that are skipped behind an augmentation, by the remainder of its size by 4 (document 02, No. 4): 0 skips 0, 1 skips 3, 2 skips 2,
--- 3 skips 1. DWARF 5 counts them in the size; gimli does not, and so it is here (docs/DIFFERENCES.md)
+-- how many bytes are skipped behind an augmentation, by the remainder of its size by 4 (document 02, No. 4): 0 skips 0, 1 skips 3, 2 skips 2,
+-- 3 skips 1
 unfoldable pub paddingFor : ℕ → ℕ
 paddingFor remainder =
     cond (eqb remainder 0) 0
@@ -57,12 +57,13 @@ paddingFor remainder =
     -- the remainder is 3
     1))
 
--- the padding of a size: the fewest bytes that bring it to a multiple of 4 (`PaddingFills` and `PaddingLeast` of Sanity). The field that DWARF 5
--- calls padding is another, the two bytes behind the version
+-- the padding of a size: the fewest bytes that bring it to a multiple of 4 (`PaddingFills` and `PaddingLeast` of Sanity). DWARF 5 counts them in the
+-- size, which is then such a multiple, and nothing is skipped; gimli skips them for any size, whatever they are, and so it is here
+-- (docs/DIFFERENCES.md). The field that DWARF 5 calls padding is another, the two bytes behind the version
 unfoldable pub padding : ℕ → ℕ
 padding size = paddingFor (size % 4)
 
--- the augmentation: none if the size is 0; else its place and length, and the place past its padding
+-- the augmentation: none if the size is 0; else its place and length, and the place past its padding, which depends on the size alone
 unfoldable pub augmentation : ℕ → List ℕ → ℕ → ℕ → Outcome ReadAugmentation
 augmentation size s at end = cond (eqb size 0) (answered (record { augmentation = Augmentation.None; next = at })) (do
   string ← cut size s at end

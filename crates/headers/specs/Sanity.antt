@@ -20,7 +20,16 @@ use Rattle.headers.specs.Header.{padding, headerBody, header}
 use Rattle.headers.specs.Headers.{headerStep, headerAt, headersFrom}
 use Rattle.headers.specs.Answers.{headerStepOf}
 
--- for every size the four cases skip what gimli's formula `(4 - (size & 3)) & 3` does: `& 3` is the remainder by 4
+-- the four cases, for every size
+abbrev pub PaddingCases : Type 0
+PaddingCases =
+    (size : ℕ)
+    → (size % 4 ≡ 0 → padding size ≡ 0)
+    × (size % 4 ≡ 1 → padding size ≡ 3)
+    × (size % 4 ≡ 2 → padding size ≡ 2)
+    × (size % 4 ≡ 3 → padding size ≡ 1)
+
+-- for every size they skip as many bytes as the formula without cases does, which is gimli's `(4 - (size & 3)) & 3`: `& 3` is the remainder by 4
 abbrev pub PaddingSum : Type 0
 PaddingSum = (size : ℕ) → padding size ≡ (4 - size % 4) % 4
 
