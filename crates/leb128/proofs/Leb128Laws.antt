@@ -1,24 +1,68 @@
--- Laws of LEB128 numbers. None of them looks at the limits: how many bytes a number may have is known to Leb128Limits.antt alone.
-use Prim.Native.Nat.{ℕ, zero, suc, _+_, _*_, _-_, _%_, _/_, _≤_, _<_}
+-- Laws of LEB128 numbers of any width. The laws of 64 and 16 bits are in Leb128Limits.antt.
+use Prim.Native.Nat.{ℕ, zero, suc, _+_, _*_, _-_, _^_, _%_, _/_, _≤_, _<_}
 use mathlib.Core.Path.{_≡_, refl, sym, ap, _∙_}
 use mathlib.Core.List.{List, [], _∷_, _++_, map}
-use mathlib.Core.Bool.{Bool, true, false, false≢true, cond}
-use native.Mathlib.Nat.{mul-assoc, mul-comm, mul-add}
+use mathlib.Core.Bool.{Bool, true, false, false≢true, cond, _||_}
+use native.Mathlib.Nat.{mul-assoc, mul-comm, mul-add, one-le-pow, pow-le-pow-right}
 use native.Mathlib.Omega.{arith}
-use lib.ListN.{length, getD}
+use lib.ListN.{length, getD, replicate}
 use lib.Seq.{slice}
 use lib.Dec.{leb, ltb}
-use borrow.Author.Tests.{leb-true, leb-false, lt-ltb, le-ltb, ltb-true}
+use lib.Pow.{pow-add}
+use borrow.Author.Tests.{leb-true, leb-false, le-leb, lt-leb, lt-ltb, le-ltb, ltb-true}
 use Rattle.reader.specs.Outcome.{Outcome, answered, refused, _>>=_, _>>_, demand, refuseIf}
 use Rattle.reader.specs.Parts.{leftAt}
 use Rattle.reader.specs.Numbers.{Read, readByte}
-use Rattle.leb128.specs.Leb128.{numberBytes, complete, base128, Limit, beyond, someBeyond, numberOfBytes, leb128, encodedIn, encoded}
-use Rattle.leb128.specs.Sanity.{Leb128Forward, Leb128InPart}
+use Rattle.leb128.specs.Leb128.{numberBytes, complete, base128, numberOfBytes, leb128, encodedIn, encoded, padded}
+use Rattle.leb128.specs.Sanity.{Leb128Forward, Leb128InPart, Leb128Below, Leb128ReadsBack, Writes}
 use Rattle.reader.proofs.OutcomeLaws.{then-answered, demanded, passed, same-answer}
 use Rattle.reader.proofs.PartLaws.{left-is-length, slice-first, slice-none}
 use Rattle.reader.proofs.NumberLaws.{byte-read, byte-missing}
 
--- the number r, unless a byte of it is beyond the limit or its last byte is missing
+pub powers-above : (bits : ℕ) → 1 ≤ 2 ^ bits
+powers-above bits = one-le-pow bits 2 (omega arith)
+
+-- nothing is below every width
+pub width-zero : (bits : ℕ) → leb (2 ^ bits) 0 ≡ false
+width-zero bits = lt-leb (2 ^ bits) 0 (powers-above bits)
+
+-- A width takes seven bits of the first byte; what follows it has the bits that are left, and none where there were fewer than seven.
+pub width-wide : (bits x : ℕ) → 7 ≤ bits → x < 128 → leb (2 ^ bits) x ≡ false
+width-wide bits x h low =
+    let most : 2 ^ 7 ≤ 2 ^ bits = pow-le-pow-right (omega arith) h in
+    lt-leb (2 ^ bits) x (omega (arith, most))
+
+pub width-step : (bits x rest : ℕ) → x < 128 → leb (2 ^ bits) (x + 128 * rest) ≡ (leb (2 ^ bits) x || leb (2 ^ (bits - 7)) rest)
+width-step bits x rest low = go (leb 7 bits) refl
+  where
+    wide : 7 ≤ bits → (t : Bool) → leb (2 ^ (bits - 7)) rest ≡ t → leb (2 ^ bits) (x + 128 * rest) ≡ t
+    wide h t e =
+        let parts : bits ≡ 7 + (bits - 7) = omega arith in
+        let product : 2 ^ bits ≡ 128 * 2 ^ (bits - 7) = ap (λ k. 2 ^ k) parts ∙ pow-add 2 7 (bits - 7) in
+        reaches t e product
+      where
+        reaches : (t : Bool) → leb (2 ^ (bits - 7)) rest ≡ t → 2 ^ bits ≡ 128 * 2 ^ (bits - 7) → leb (2 ^ bits) (x + 128 * rest) ≡ t
+        reaches true e product = le-leb (2 ^ bits) (x + 128 * rest) (omega (arith, leb-true (2 ^ (bits - 7)) rest e, product))
+        reaches false e product = lt-leb (2 ^ bits) (x + 128 * rest) (omega (arith, leb-false (2 ^ (bits - 7)) rest e, product))
+
+    narrow : bits < 7 → (t : Bool) → leb (2 ^ bits) x ≡ t → (u : Bool) → leb 1 rest ≡ u → leb (2 ^ bits) (x + 128 * rest) ≡ (t || u)
+    narrow h true e u f = le-leb (2 ^ bits) (x + 128 * rest) (omega (arith, leb-true (2 ^ bits) x e))
+    narrow h false e true f =
+        let fewer : bits ≤ 7 = omega arith in
+        let most : 2 ^ bits ≤ 2 ^ 7 = pow-le-pow-right (omega arith) fewer in
+        le-leb (2 ^ bits) (x + 128 * rest) (omega (arith, leb-true 1 rest f, most))
+    narrow h false e false f = lt-leb (2 ^ bits) (x + 128 * rest) (omega (arith, leb-false (2 ^ bits) x e, leb-false 1 rest f))
+
+    go : (t : Bool) → leb 7 bits ≡ t → leb (2 ^ bits) (x + 128 * rest) ≡ (leb (2 ^ bits) x || leb (2 ^ (bits - 7)) rest)
+    go true e =
+        let h : 7 ≤ bits = leb-true 7 bits e in
+        rw (width-wide bits x h low) (wide h _ refl)
+    go false e =
+        let h : bits < 7 = leb-false 7 bits e in
+        let none : bits - 7 ≡ 0 = omega arith in
+        rw none (narrow h _ refl _ refl)
+
+-- the number r, unless a bit beyond the width is set or its last byte is missing
 abbrev finished : Bool → Bool → Read → Outcome Read
 finished bad whole r = do
   refuseIf bad 7 0
@@ -34,77 +78,71 @@ finished-prefixed true whole b r = refl
 finished-prefixed false true b r = refl
 finished-prefixed false false b r = refl
 
--- the number whose bytes from position i on are these, the first at the place `at`
-unfoldable pub numberFrom : Limit → ℕ → List ℕ → ℕ → Outcome Read
-numberFrom l i bs at = finished (someBeyond l i bs) (complete bs) (record { value = base128 bs; next = at + length bs })
+-- the number that begins with the byte b, and what follows it
+abbrev pub withByte : ℕ → Read → Outcome Read → Outcome Read
+withByte bits b rest = cond (leb (2 ^ bits) (b .value % 128)) (refused 7 0) (cond (ltb (b .value) 128) (answered b) (rest >>= λ r. answered (prefixed (b .value) r)))
 
--- the number at `at`, from position i on
-unfoldable pub leb128From : Limit → ℕ → List ℕ → ℕ → ℕ → Outcome Read
-leb128From l i s at end = numberFrom l i (numberBytes (slice at end s)) at
-
--- the number with the byte b at position i, and what follows it
-abbrev withByte : Limit → ℕ → Read → Outcome Read → Outcome Read
-withByte l i b rest = cond (beyond l i (b .value)) (refused 7 0) (cond (ltb (b .value) 128) (answered b) (rest >>= λ r. answered (prefixed (b .value) r)))
-
-number-byte : (l : Limit) (i b : ℕ) (bs : List ℕ) (at : ℕ) (t u : Bool) → beyond l i b ≡ t → ltb b 128 ≡ u
-    → numberFrom l i (numberBytes (b ∷ bs)) at ≡ withByte l i (record { value = b; next = at + 1 }) (numberFrom l (suc i) (numberBytes bs) (at + 1))
-unfolding numberFrom numberBytes someBeyond complete base128
-number-byte l i b bs at true u e f = rw e
-number-byte l i b bs at false true e f =
+pub number-byte : (bits b : ℕ) (bs : List ℕ) (at : ℕ) (t u : Bool) → leb (2 ^ bits) (b % 128) ≡ t → ltb b 128 ≡ u
+    → numberOfBytes bits (numberBytes (b ∷ bs)) at ≡ withByte bits (record { value = b; next = at + 1 }) (numberOfBytes (bits - 7) (numberBytes bs) (at + 1))
+unfolding numberOfBytes numberBytes complete base128
+number-byte bits b bs at true u e f = rw (width-step bits (b % 128) (base128 (cond (ltb b 128) [] (numberBytes bs))) (omega arith), e)
+number-byte bits b bs at false true e f =
     let low : b % 128 + 128 * 0 ≡ b = omega (arith, ltb-true b 128 f) in
-    rw (e, f, low)
-number-byte l i b bs at false false e f =
+    rw (width-step bits (b % 128) (base128 (cond (ltb b 128) [] (numberBytes bs))) (omega arith), e, f, width-zero (bits - 7), low)
+number-byte bits b bs at false false e f =
     let place : at + suc (length (numberBytes bs)) ≡ at + 1 + length (numberBytes bs) = omega arith in
-    rw (e, f, place) (finished-prefixed (someBeyond l (suc i) (numberBytes bs)) (complete (numberBytes bs)) b (record { value = base128 (numberBytes bs); next = at + 1 + length (numberBytes bs) }))
+    rw (width-step bits (b % 128) (base128 (cond (ltb b 128) [] (numberBytes bs))) (omega arith), e, f, place)
+    (finished-prefixed (leb (2 ^ (bits - 7)) (base128 (numberBytes bs))) (complete (numberBytes bs)) b (record { value = base128 (numberBytes bs); next = at + 1 + length (numberBytes bs) }))
 
-number-none : (l : Limit) (i at : ℕ) → numberFrom l i (numberBytes []) at ≡ refused 1 at
-unfolding numberFrom numberBytes someBeyond complete
-number-none l i at =
+pub number-none : (bits at : ℕ) → numberOfBytes bits (numberBytes []) at ≡ refused 1 at
+unfolding numberOfBytes numberBytes complete base128
+number-none bits at =
     let place : at + 0 ≡ at = omega arith in
-    rw place
+    rw (width-zero bits, place)
 
--- a number is a last byte, or a byte and what follows it
-unfoldable pub leb128Step : Limit → ℕ → List ℕ → ℕ → ℕ → Outcome Read
-leb128Step l i s at end = do
+-- a number is a last byte, or a byte and what follows it, for which seven bits less are left
+unfoldable pub leb128Step : ℕ → List ℕ → ℕ → ℕ → Outcome Read
+leb128Step bits s at end = do
   b ← readByte s at end
-  withByte l i b (leb128From l (suc i) s (b .next) end)
+  withByte bits b (leb128 (bits - 7) s (b .next) end)
 
-pub leb128-step : (l : Limit) (i : ℕ) (s : List ℕ) (at end : ℕ) → leb128From l i s at end ≡ leb128Step l i s at end
-unfolding leb128From leb128Step
-leb128-step l i s at end = go (leb 1 (leftAt s at end)) refl
+pub leb128-step : (bits : ℕ) (s : List ℕ) (at end : ℕ) → leb128 bits s at end ≡ leb128Step bits s at end
+unfolding leb128 leb128Step
+leb128-step bits s at end = go (leb 1 (leftAt s at end)) refl
   where
-    go : (t : Bool) → leb 1 (leftAt s at end) ≡ t → leb128From l i s at end ≡ leb128Step l i s at end
+    go : (t : Bool) → leb 1 (leftAt s at end) ≡ t → leb128 bits s at end ≡ leb128Step bits s at end
     go true e =
         let h : 1 ≤ leftAt s at end = leb-true _ _ e in
-        rw (byte-read s at end (omega arith), slice-first s at end h) (number-byte l i (getD s at 0) (slice (at + 1) end s) at _ _ refl refl)
+        rw (byte-read s at end (omega arith), slice-first s at end h) (number-byte bits (getD s at 0) (slice (at + 1) end s) at _ _ refl refl)
     go false e =
         let h : leftAt s at end < 1 = leb-false _ _ e in
-        rw (byte-missing s at end (omega arith), slice-none s at end h) (number-none l i at)
-
--- the whole number is the number from position 0 on
-pub leb128-whole : (l : Limit) (s : List ℕ) (at end : ℕ) → leb128 l s at end ≡ leb128From l 0 s at end
-unfolding leb128 leb128From numberOfBytes numberFrom
-leb128-whole l s at end = refl
+        rw (byte-missing s at end (omega arith), slice-none s at end h) (number-none bits at)
 
 -- where no byte is left, the first one is missing
-pub leb128-none : (l : Limit) (s : List ℕ) (at end : ℕ) → leftAt s at end < 1 → leb128 l s at end ≡ refused 1 at
+pub leb128-none : (bits : ℕ) (s : List ℕ) (at end : ℕ) → leftAt s at end < 1 → leb128 bits s at end ≡ refused 1 at
 unfolding leb128Step
-leb128-none l s at end h = leb128-whole l s at end ∙ leb128-step l 0 s at end ∙ rw (byte-missing s at end (omega arith))
+leb128-none bits s at end h = leb128-step bits s at end ∙ rw (byte-missing s at end (omega arith))
 
 -- a number looks at no byte outside its part
 pub leb128-part : Leb128InPart
 unfolding leb128
-leb128-part l s t at end e = rw e
+leb128-part bits s t at end e = rw e
 
 -- what an answered number says of its bytes
-pub leb128-bytes : (l : Limit) (s : List ℕ) (at end : ℕ) (r : Read) → leb128 l s at end ≡ answered r
-    → (someBeyond l 0 (numberBytes (slice at end s)) ≡ false) × (complete (numberBytes (slice at end s)) ≡ true)
+pub leb128-bytes : (bits : ℕ) (s : List ℕ) (at end : ℕ) (r : Read) → leb128 bits s at end ≡ answered r
+    → (base128 (numberBytes (slice at end s)) < 2 ^ bits) × (complete (numberBytes (slice at end s)) ≡ true)
     × (r .value ≡ base128 (numberBytes (slice at end s))) × (r .next ≡ at + length (numberBytes (slice at end s)))
 unfolding leb128 numberOfBytes
-leb128-bytes l s at end r e =
-    let (u, p, q) = then-answered (refuseIf (someBeyond l 0 (numberBytes (slice at end s))) 7 0) _ r e in
+leb128-bytes bits s at end r e =
+    let (u, p, q) = then-answered (refuseIf (leb (2 ^ bits) (base128 (numberBytes (slice at end s)))) 7 0) _ r e in
     let (v, o, m) = then-answered (demand (complete (numberBytes (slice at end s))) 1 (at + length (numberBytes (slice at end s)))) _ r q in
-    (passed _ 7 0 u p, demanded _ 1 _ v o, ap (λ x. x .value) (sym (same-answer m)), ap (λ x. x .next) (sym (same-answer m)))
+    (leb-false _ _ (passed _ 7 0 u p), demanded _ 1 _ v o, ap (λ x. x .value) (sym (same-answer m)), ap (λ x. x .next) (sym (same-answer m)))
+
+-- a number is below its width
+pub leb128-below : (bits : ℕ) → Leb128Below bits
+leb128-below bits s at end r e =
+    let (inside, whole, value, next) = leb128-bytes bits s at end r e in
+    rw value inside
 
 bytes-among : (bs : List ℕ) → length (numberBytes bs) ≤ length bs
 unfolding numberBytes
@@ -122,8 +160,8 @@ complete-some (b ∷ bs) e = omega arith
 
 -- a number is read forward
 pub leb128-forward : Leb128Forward
-leb128-forward l s at end r e =
-    let (inside, whole, value, next) = leb128-bytes l s at end r e in
+leb128-forward bits s at end r e =
+    let (inside, whole, value, next) = leb128-bytes bits s at end r e in
     omega (arith, complete-some (numberBytes (slice at end s)) whole, bytes-among (slice at end s), left-is-length s at end)
 
 -- 7.6's encoder, a byte at a time: turns enough give the same bytes
@@ -145,6 +183,12 @@ pub encoded-examples : map encoded (2 ∷ 127 ∷ 128 ∷ 129 ∷ 12857 ∷ [])
     ≡ ((2 ∷ []) ∷ (127 ∷ []) ∷ ((0 + 0x80) ∷ 1 ∷ []) ∷ ((1 + 0x80) ∷ 1 ∷ []) ∷ ((57 + 0x80) ∷ 100 ∷ []) ∷ [])
 unfolding encoded encodedIn
 encoded-examples = refl
+
+-- 2, 129 and 12857 padded with two bytes 80 and 00
+pub padded-examples : map (padded 2) (2 ∷ 129 ∷ 12857 ∷ [])
+    ≡ (((2 + 0x80) ∷ 0x80 ∷ 0x80 ∷ 0 ∷ []) ∷ ((1 + 0x80) ∷ (1 + 0x80) ∷ 0x80 ∷ 0x80 ∷ 0 ∷ []) ∷ ((57 + 0x80) ∷ (100 + 0x80) ∷ 0x80 ∷ 0x80 ∷ 0 ∷ []) ∷ [])
+unfolding padded encoded encodedIn
+padded-examples = refl
 
 -- what stands in the bytes that the encoder wrote for n, whatever follows them
 pub record Wrote (n : ℕ) (bs after : List ℕ) : Type 0 where
@@ -170,6 +214,39 @@ wrote (suc k) n after h = go (ltb n 128) refl (wrote k (n / 128) after (omega ar
     go : (t : Bool) → ltb n 128 ≡ t → Wrote (n / 128) (encodedIn k (n / 128)) after → Wrote n (cond (ltb n 128) (n ∷ []) ((n % 128 + 128) ∷ encodedIn k (n / 128))) after
     go true e w = rw e (wrote-last n after (ltb-true n 128 e))
     go false e w = rw e (wrote-byte n (encodedIn k (n / 128)) after w)
+
+-- and in the bytes that were padded: a byte 80 in front of a 0 leaves it 0, and a byte of a number goes in front of what it leaves
+wrote-zeros : (more : ℕ) (after : List ℕ) → Wrote 0 (replicate more 0x80 ++ (0 ∷ [])) after
+wrote-zeros zero after = wrote-last 0 after (omega arith)
+wrote-zeros (suc more) after = wrote-byte 0 (replicate more 0x80 ++ (0 ∷ [])) after (wrote-zeros more after)
+
+wrote-continued : (k n : ℕ) (tail after : List ℕ) → n ≤ k → Wrote 0 tail after → Wrote n (map (λ b. b % 128 + 128) (encodedIn k n) ++ tail) after
+unfolding encodedIn
+wrote-continued zero n tail after h w =
+    let none : 0 ≡ n / 128 = omega arith in
+    wrote-byte n tail after (rw none at w)
+wrote-continued (suc k) n tail after h w = go (ltb n 128) refl (wrote-continued k (n / 128) tail after (omega arith) w)
+  where
+    go : (t : Bool) → ltb n 128 ≡ t → Wrote (n / 128) (map (λ b. b % 128 + 128) (encodedIn k (n / 128)) ++ tail) after
+        → Wrote n (map (λ b. b % 128 + 128) (cond (ltb n 128) (n ∷ []) ((n % 128 + 128) ∷ encodedIn k (n / 128))) ++ tail) after
+    go true e ih =
+        let none : 0 ≡ n / 128 = omega (arith, ltb-true n 128 e) in
+        rw e (wrote-byte n tail after (rw none at w))
+    go false e ih =
+        let same : (n % 128 + 128) % 128 + 128 ≡ n % 128 + 128 = omega arith in
+        rw (e, same) (wrote-byte n (map (λ b. b % 128 + 128) (encodedIn k (n / 128)) ++ tail) after ih)
+
+wrote-any : (v : ℕ) (bs after : List ℕ) → Writes v bs → Wrote v bs after
+unfolding encoded padded
+wrote-any v bs after Writes.shortest = wrote v v after (omega arith)
+wrote-any v bs after (Writes.longer more) = wrote-continued v v (replicate more 0x80 ++ (0 ∷ [])) after (omega arith) (wrote-zeros more after)
+
+-- what is written is read back, with the next place right after it
+pub leb128-back : (bits : ℕ) → Leb128ReadsBack bits
+unfolding leb128 numberOfBytes
+leb128-back bits v bs s after at end written h e =
+    let w = wrote-any v bs after written in
+    rw (e, w .bytes, w .value, lt-leb (2 ^ bits) v h, w .whole)
 
 -- a number whose later bytes are read as r, with the earlier ones worth `value` and the first of the later ones counting `scale`
 abbrev pub scaled : ℕ → ℕ → Outcome Read → Outcome Read

@@ -1,12 +1,13 @@
--- LEB128: DWARF 5, section 7.6, and document 01's limits. Seven bits a byte, the low ones first; bit 7 says that another follows,
--- so that the last byte of a number is the first below 128. (The library's `leb` tests "at most" and has nothing to do with LEB128.)
-use Prim.Native.Nat.{ℕ, zero, suc, _+_, _*_, _%_, _/_}
-use mathlib.Core.List.{List, [], _∷_}
-use mathlib.Core.Bool.{Bool, false, cond, _&&_, _||_}
-use lib.ListN.{length}
+-- LEB128: DWARF 5, section 7.6. Seven bits a byte, the low ones first; bit 7 says that another follows, so that the last byte of a number is the
+-- first below 128. Document 01's limits of ten and three bytes are 64 and 16 bits, in any number of bytes (document 02, No. 8). (The
+-- library's `leb` tests "at most" and has nothing to do with LEB128.)
+use Prim.Native.Nat.{ℕ, zero, suc, _+_, _*_, _^_, _%_, _/_}
+use mathlib.Core.List.{List, [], _∷_, _++_, map}
+use mathlib.Core.Bool.{Bool, false, cond, _||_}
+use lib.ListN.{length, replicate}
 use lib.Seq.{slice}
 use lib.Dec.{leb, ltb}
-use Rattle.reader.specs.Outcome.{Outcome, answered, _>>_, demand, refuseIf}
+use Rattle.reader.specs.Outcome.{Outcome, answered, _>>=_, _>>_, demand, refuseIf}
 use Rattle.reader.specs.Numbers.{Read}
 
 -- the bytes of the number with which a list begins: up to the first below 128, that one included
@@ -24,41 +25,24 @@ unfoldable pub base128 : List ℕ → ℕ
 base128 [] = 0
 base128 (b ∷ bs) = b % 128 + 128 * base128 bs
 
--- document 01's limits: the position, counted from 0, of the last byte that a number may have, and the most that this byte may be
-pub record Limit : Type 0 where
-  pub last : ℕ
-  pub top : ℕ
+-- the limits: how many bits a number may have, its width. `leb128::read::unsigned` has 64, `leb128::read::u16` has 16.
+abbrev pub unsignedLimit : ℕ
+unsignedLimit = 64
 
-abbrev pub limited : ℕ → ℕ → Limit
-limited last top = record { last = last; top = top }
+abbrev pub u16Limit : ℕ
+u16Limit = 16
 
--- `leb128::read::unsigned`: at most ten bytes, the tenth is 0 or 1
-abbrev pub unsignedLimit : Limit
-unsignedLimit = limited 9 1
-
--- `leb128::read::u16`: at most three bytes, the third is at most 3
-abbrev pub u16Limit : Limit
-u16Limit = limited 2 3
-
--- whether the byte b at position i gives refusal 7
-unfoldable pub beyond : Limit → ℕ → ℕ → Bool
-beyond l i b = leb (l .last) i && ltb (l .top) b
-
--- whether some byte gives refusal 7, where the first stands at position i
-unfoldable pub someBeyond : Limit → ℕ → List ℕ → Bool
-someBeyond l i [] = false
-someBeyond l i (b ∷ bs) = beyond l i b || someBeyond l (suc i) bs
-
--- the number with these bytes, of which the first stands at the place `at`; where its last byte is missing, refusal 1 at the place of the missing byte
-unfoldable pub numberOfBytes : Limit → List ℕ → ℕ → Outcome Read
-numberOfBytes l bs at = do
-  refuseIf (someBeyond l 0 bs) 7 0
+-- the number with these bytes, of which the first stands at the place `at`. Where a bit beyond the width is set, the bytes that are there make
+-- 2 ^ bits or more: refusal 7 (`ByteByByte` says where it comes). Else, where its last byte is missing, refusal 1 at the place of that byte.
+unfoldable pub numberOfBytes : ℕ → List ℕ → ℕ → Outcome Read
+numberOfBytes bits bs at = do
+  refuseIf (leb (2 ^ bits) (base128 bs)) 7 0
   demand (complete bs) 1 (at + length bs)
   answered (record { value = base128 bs; next = at + length bs })
 
--- the number at `at`, in a part that ends at `end`
-unfoldable pub leb128 : Limit → List ℕ → ℕ → ℕ → Outcome Read
-leb128 l s at end = numberOfBytes l (numberBytes (slice at end s)) at
+-- the number of a width at `at`, in a part that ends at `end`
+unfoldable pub leb128 : ℕ → List ℕ → ℕ → ℕ → Outcome Read
+leb128 bits s at end = numberOfBytes bits (numberBytes (slice at end s)) at
 
 -- 7.6's encoder: while 128 or more is left, a byte with the low seven bits and bit 7 set; then what is left. `encoded` has turns enough.
 unfoldable pub encodedIn : ℕ → ℕ → List ℕ
@@ -70,3 +54,14 @@ encodedIn (suc turns) n =
 -- the bytes of a number, the fewest that hold it
 unfoldable pub encoded : ℕ → List ℕ
 encoded n = encodedIn n n
+
+-- the same bytes, each with bit 7 set, then `more` bytes 80, and 00: how an assembler pads a number to a fixed length
+unfoldable pub padded : ℕ → ℕ → List ℕ
+padded more n = map (λ b. b % 128 + 128) (encoded n) ++ (replicate more 0x80 ++ (0 ∷ []))
+
+-- What a single function of the code answers: the place past the bytes that pad a number beyond its width, of which none has a bit set. They
+-- are a number of 0 bits.
+unfoldable pub pastPadding : List ℕ → ℕ → ℕ → Outcome ℕ
+pastPadding s at end = do
+  r ← leb128 0 s at end
+  answered (r .next)

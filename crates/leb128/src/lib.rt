@@ -1,21 +1,74 @@
-// LEB128 numbers within document 01's limits (gimli's leb128.rs; document 01, "Bytes and numbers"; DWARF 5, section 7.6), each read
-// at a place of a part as the readings of `reader` are.
+// LEB128 numbers of 64 and of 16 bits (gimli's leb128.rs; document 01, "Bytes and numbers"; document 02, No. 8; DWARF 5, section 7.6), each
+// read at a place of a part as the readings of `reader` are. A number may be padded to any length; a set bit beyond its width is 7.
 ghost use mathlib.Core.Path.{_≡_};
-ghost use Rattle.reader.specs.Answers.{u16Outcome, u64Outcome};
-ghost use Rattle.leb128.specs.Leb128.{leb128, unsignedLimit, u16Limit};
+ghost use Prim.Native.Nat.{ℕ, _+_, _^_, _<_};
+ghost use Rattle.reader.specs.Answers.{skipOutcome, u8Outcome, u16Outcome, u64Outcome};
+ghost use Rattle.leb128.specs.Leb128.{leb128, unsignedLimit, u16Limit, pastPadding};
 
 // Reading.
 pub mod read {
     use reader::Error;
+    use reader::Read8;
     use reader::Read16;
     use reader::Read64;
+    use reader::Skipped;
     use reader::U8Read;
     use reader::U16Read;
     use reader::U64Read;
     use reader::read_u8;
 
+    // The place past the bytes that pad a number beyond its width, however many they are: each adds only zero bits, and the last is the
+    // first below 128.
+    fn skip_padding(s: &[u8], at: usize, end: usize) -> Skipped
+        ensures { λ r. ⌜ skipOutcome r ≡ pastPadding (now (s .entry)) at end ⌝ }
+    {
+        let mut place = at;
+        loop {
+            let b = match read_u8(s, place, end) {
+                U8Read::Value(r) => r,
+                U8Read::Refused(e) => return Skipped::Refused(e),
+            };
+            let byte = b.value;
+            if 0 < byte % 128 {
+                return Skipped::Refused(Error::BadUnsignedLeb128);
+            }
+            if byte < 128 {
+                return Skipped::To(b.next);
+            }
+            place = b.next;
+        }
+    }
+
+    // The byte that has the last bits of a number, fewer than seven, and past it the padding. `top` is the most that these bits may be.
+    fn last_byte(s: &[u8], at: usize, end: usize, top: u8) -> U8Read
+        ensures { λ r. ⌜ ((bits : ℕ) → bits < 7 → 2 ^ bits ≡ top + 1 → u8Outcome r ≡ leb128 bits (now (s .entry)) at end) ⌝ }
+    {
+        let b = match read_u8(s, at, end) {
+            U8Read::Value(r) => r,
+            U8Read::Refused(e) => return U8Read::Refused(e),
+        };
+        let byte = b.value;
+        let low = byte % 128;
+        if top < low {
+            return U8Read::Refused(Error::BadUnsignedLeb128);
+        }
+        if byte < 128 {
+            return U8Read::Value(Read8 {
+                value: low,
+                next: b.next,
+            });
+        }
+        match skip_padding(s, b.next, end) {
+            Skipped::To(next) => U8Read::Value(Read8 {
+                value: low,
+                next: next,
+            }),
+            Skipped::Refused(e) => U8Read::Refused(e),
+        }
+    }
+
     // An unsigned number of 64 bits, a byte at a time. `scale` is what the byte at `place` counts for: 128 to the power of its
-    // position `i`.
+    // position `i`. The tenth byte has the last bit.
     fn bytewise(s: &[u8], at: usize, end: usize) -> U64Read
         ensures { λ r. ⌜ u64Outcome r ≡ leb128 unsignedLimit (now (s .entry)) at end ⌝ }
     {
@@ -40,18 +93,13 @@ pub mod read {
             i = i + 1;
             place = b.next;
         }
-        let b = match read_u8(s, place, end) {
-            U8Read::Value(r) => r,
-            U8Read::Refused(e) => return U64Read::Refused(e),
-        };
-        let byte = b.value;
-        if 1 < byte {
-            return U64Read::Refused(Error::BadUnsignedLeb128);
+        match last_byte(s, place, end, 1) {
+            U8Read::Value(r) => U64Read::Value(Read64 {
+                value: value + scale * (r.value as u64),
+                next: r.next,
+            }),
+            U8Read::Refused(e) => U64Read::Refused(e),
         }
-        U64Read::Value(Read64 {
-            value: value + scale * (byte as u64),
-            next: b.next,
-        })
     }
 
     // The same with two bytes read apart: few numbers have more.
@@ -101,7 +149,7 @@ pub mod read {
         long_unsigned(s, at, end)
     }
 
-    // An unsigned number of 16 bits, which has at most three bytes.
+    // An unsigned number of 16 bits. The third byte has the last two.
     fn long_u16(s: &[u8], at: usize, end: usize) -> U16Read
         ensures { λ r. ⌜ u16Outcome r ≡ leb128 u16Limit (now (s .entry)) at end ⌝ }
     {
@@ -127,18 +175,14 @@ pub mod read {
                 next: b.next,
             });
         }
-        let c = match read_u8(s, b.next, end) {
-            U8Read::Value(r) => r,
-            U8Read::Refused(e) => return U16Read::Refused(e),
-        };
-        let third = c.value;
-        if 3 < third {
-            return U16Read::Refused(Error::BadUnsignedLeb128);
+        match last_byte(s, b.next, end, 3) {
+            U8Read::Value(c) => U16Read::Value(Read16 {
+                value: (first % 128) as u16
+                    + 128 * ((second % 128) as u16 + 128 * (c.value as u16)),
+                next: c.next,
+            }),
+            U8Read::Refused(e) => U16Read::Refused(e),
         }
-        U16Read::Value(Read16 {
-            value: (first % 128) as u16 + 128 * ((second % 128) as u16 + 128 * (third as u16)),
-            next: c.next,
-        })
     }
 
     // The same: one byte here, all else apart.

@@ -9,7 +9,7 @@ use native.Mathlib.Omega.{arith}
 use Rattle.reader.specs.Errors.{longest}
 use Rattle.reader.specs.Parts.{skipped, cut}
 use Rattle.reader.specs.Numbers.{digits, spelled, Bytes, no-bytes, byte-then, numberAt, readNumber, readByte, initialLength}
-use Rattle.leb128.specs.Leb128.{leb128, numberOfBytes, numberBytes, someBeyond, beyond, complete, base128}
+use Rattle.leb128.specs.Leb128.{leb128, numberOfBytes, numberBytes, complete, base128}
 use Rattle.strings.specs.Strings.{beforeZero, zeroFrom, getStr, textBytes}
 use Rattle.reader.specs.Listing.{listing, counted, answersOf}
 use Rattle.reader.specs.Steps.{no-steps, step-then}
@@ -41,7 +41,7 @@ unfolding caseA headerA header headerCut headerBody counts augmentation initialL
 header-of-a = refl
 
 pub opens-a : OpensA
-unfolding caseA headerA indexA nameIndex indexOf cutParts passedOver parts place placesFrom sizes wordBytes hashBytes skipped longest parsed ending table listing declaration withAttributes head attributes attributesIn pair leb128 numberOfBytes numberBytes someBeyond beyond complete base128
+unfolding caseA headerA indexA nameIndex indexOf cutParts passedOver parts place placesFrom sizes wordBytes hashBytes skipped longest parsed ending table listing declaration withAttributes head attributes attributesIn pair leb128 numberOfBytes numberBytes complete base128
 opens-a = refl
 
 pub parts-of-a : PartsOfA
@@ -65,7 +65,7 @@ unfolding caseA stringsA indexA nameStringBytes textBytes nameString nameStringO
 bytes-of-a = refl
 
 pub abbreviations-of-a : AbbreviationsOfA
-unfolding caseA indexA getAbbreviation found find table listing declaration withAttributes head attributes attributesIn pair leb128 numberOfBytes numberBytes someBeyond beyond complete base128 fitted parts place placesFrom sizes wordBytes hashBytes longest
+unfolding caseA indexA getAbbreviation found find table listing declaration withAttributes head attributes attributesIn pair leb128 numberOfBytes numberBytes complete base128 fitted parts place placesFrom sizes wordBytes hashBytes longest
 abbreviations-of-a = refl
 
 pub cursors-of-a : CursorsOfA
@@ -73,15 +73,15 @@ unfolding caseA indexA nameEntries seriesStart nthWord fitted parts place places
 cursors-of-a = refl
 
 pub series-of-a : SeriesOfA
-unfolding caseA indexA series seriesStart seriesEntry entriesFrom answersOf nthWord entry values kept noAttribute first formValue asFlag asUnsigned asOffset readByte find table listing declaration withAttributes head attributes attributesIn pair leb128 numberOfBytes numberBytes someBeyond beyond complete base128 fitted parts place placesFrom sizes wordBytes hashBytes longest readNumber skipped spelled digits
+unfolding caseA indexA series seriesStart seriesEntry entriesFrom answersOf nthWord entry values kept noAttribute first formValue asFlag asUnsigned asOffset readByte find table listing declaration withAttributes head attributes attributesIn pair leb128 numberOfBytes numberBytes complete base128 fitted parts place placesFrom sizes wordBytes hashBytes longest readNumber skipped spelled digits
 series-of-a = refl
 
 pub steps-of-a : StepsOfA
-unfolding caseA indexA entryStep stepShowing moved seriesEntry entry values kept noAttribute first formValue asFlag asUnsigned asOffset readByte find table listing declaration withAttributes head attributes attributesIn pair leb128 numberOfBytes numberBytes someBeyond beyond complete base128 fitted parts place placesFrom sizes wordBytes hashBytes longest readNumber skipped spelled digits
+unfolding caseA indexA entryStep stepShowing moved seriesEntry entry values kept noAttribute first formValue asFlag asUnsigned asOffset readByte find table listing declaration withAttributes head attributes attributesIn pair leb128 numberOfBytes numberBytes complete base128 fitted parts place placesFrom sizes wordBytes hashBytes longest readNumber skipped spelled digits
 steps-of-a = step-then refl (step-then refl (step-then refl no-steps))
 
 pub facts-of-a : FactsOfA
-unfolding caseA indexA entryDieOffset entryParent dieOffset dieOffsetIn parentOf parentIn entry nameEntry values kept noAttribute first formValue asFlag asUnsigned asOffset readByte find table listing declaration withAttributes head attributes attributesIn pair leb128 numberOfBytes numberBytes someBeyond beyond complete base128 fitted parts place placesFrom sizes wordBytes hashBytes longest readNumber skipped spelled digits
+unfolding caseA indexA entryDieOffset entryParent dieOffset dieOffsetIn parentOf parentIn entry nameEntry values kept noAttribute first formValue asFlag asUnsigned asOffset readByte find table listing declaration withAttributes head attributes attributesIn pair leb128 numberOfBytes numberBytes complete base128 fitted parts place placesFrom sizes wordBytes hashBytes longest readNumber skipped spelled digits
 facts-of-a = (refl, refl)
 
 pub buckets-of-a : BucketsOfA
@@ -123,5 +123,5 @@ unfolding caseA indexA allBelow
 lent-a = (bytes-below caseA refl, omega arith)
 
 pub listing-of-a : ListingOfA
-unfolding caseA sectionLines headerLines nameLines nameLine nameHash entryCount counted openedIndex missedIn headersFrom headerAt header headerCut headerBody counts augmentation initialLength readNumber skipped cut spelled digits nameIndex indexOf cutParts passedOver parts place placesFrom sizes wordBytes hashBytes longest parsed ending table listing declaration withAttributes head attributes attributesIn pair leb128 numberOfBytes numberBytes someBeyond beyond complete base128 series seriesStart seriesEntry entriesFrom nthWord entry values kept noAttribute first formValue asFlag asUnsigned asOffset readByte find fitted nthOf storedStart storedHash bucketOf namesFrom runFrom fromStart run numbersFrom filterb takeWhile memberb numberAt startAbove anyAbove isMissed missedNames verdict tableCheck nameStringOffset
+unfolding caseA sectionLines headerLines nameLines nameLine nameHash entryCount counted openedIndex missedIn headersFrom headerAt header headerCut headerBody counts augmentation initialLength readNumber skipped cut spelled digits nameIndex indexOf cutParts passedOver parts place placesFrom sizes wordBytes hashBytes longest parsed ending table listing declaration withAttributes head attributes attributesIn pair leb128 numberOfBytes numberBytes complete base128 series seriesStart seriesEntry entriesFrom nthWord entry values kept noAttribute first formValue asFlag asUnsigned asOffset readByte find fitted nthOf storedStart storedHash bucketOf namesFrom runFrom fromStart run numbersFrom filterb takeWhile memberb numberAt startAbove anyAbove isMissed missedNames verdict tableCheck nameStringOffset
 listing-of-a = refl

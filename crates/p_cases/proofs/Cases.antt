@@ -5,7 +5,7 @@ use Rattle.reader.specs.Parts.{skipped, cut}
 use Rattle.reader.specs.Numbers.{digits, spelled, numberAt, readNumber, readByte, initialLength}
 use Rattle.reader.specs.Lists.{numbersFrom, filterb, takeWhile, memberb}
 use Rattle.reader.specs.Listing.{listing, followedBy, shownBy, itemsOf, counted}
-use Rattle.leb128.specs.Leb128.{leb128, numberOfBytes, numberBytes, someBeyond, beyond, complete, base128}
+use Rattle.leb128.specs.Leb128.{leb128, numberOfBytes, numberBytes, complete, base128}
 use Rattle.strings.specs.Strings.{beforeZero, zeroFrom, getStr}
 use Rattle.abbreviations.specs.Abbreviations.{pair, attributesIn, attributes, head, withAttributes, declaration, table, ending, parsed, find}
 use Rattle.headers.specs.Header.{headerCut, counts, augmentation, headerBody, header}
@@ -35,5 +35,5 @@ use Rattle.p_cases.specs.CaseA.{caseA, stringsA, indexA, secondStart}
 use Rattle.p_cases.specs.Cases.{PCases}
 
 pub p-cases : PCases
-unfolding PCases caseA secondStart indexA numbersFrom filterb takeWhile memberb nthOf storedStart storedHash bucketOf namesFrom runFrom fromStart run storing namesOfHash startAbove anyAbove isMissed missedNames verdict tableCheck numberAt nameEntryHanded entry nameEntry values kept noAttribute first formValue asFlag asUnsigned asOffset readByte find table listing declaration withAttributes head attributes attributesIn pair leb128 numberOfBytes numberBytes someBeyond beyond complete base128 fitted parts place placesFrom sizes wordBytes hashBytes longest readNumber skipped spelled digits stringsA sectionQuery queried written sectionRecords headersLeft headerRecords headersFrom headerAt header headerCut headerBody counts augmentation initialLength cut nameIndex indexOf cutParts passedOver parsed ending indexRecords candidates findByHash findByBucket firstName matching nameMatches textIs sameBytes nameString nameStringOffset nthWord getStr zeroFrom beforeZero allSeries seriesRecords recordOfEntry shownBy followedBy itemsOf counted series seriesStart seriesEntry entriesFrom facts entryRecord shown entryUnit namedUnit compileShown typeShown compileUnitOf typeUnitOf unitNumber unitNumberIn numberedUnit numberedTypeUnit compileUnit unitIn defaultCompileUnit dieOffset dieOffsetIn
+unfolding PCases caseA secondStart indexA numbersFrom filterb takeWhile memberb nthOf storedStart storedHash bucketOf namesFrom runFrom fromStart run storing namesOfHash startAbove anyAbove isMissed missedNames verdict tableCheck numberAt nameEntryHanded entry nameEntry values kept noAttribute first formValue asFlag asUnsigned asOffset readByte find table listing declaration withAttributes head attributes attributesIn pair leb128 numberOfBytes numberBytes complete base128 fitted parts place placesFrom sizes wordBytes hashBytes longest readNumber skipped spelled digits stringsA sectionQuery queried written sectionRecords headersLeft headerRecords headersFrom headerAt header headerCut headerBody counts augmentation initialLength cut nameIndex indexOf cutParts passedOver parsed ending indexRecords candidates findByHash findByBucket firstName matching nameMatches textIs sameBytes nameString nameStringOffset nthWord getStr zeroFrom beforeZero allSeries seriesRecords recordOfEntry shownBy followedBy itemsOf counted series seriesStart seriesEntry entriesFrom facts entryRecord shown entryUnit namedUnit compileShown typeShown compileUnitOf typeUnitOf unitNumber unitNumberIn numberedUnit numberedTypeUnit compileUnit unitIn defaultCompileUnit dieOffset dieOffsetIn
 p-cases = refl

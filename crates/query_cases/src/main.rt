@@ -15,6 +15,7 @@ fn main() {
     let big = sections::BIG;
     case_a();
     starts();
+    padded();
     rooms(&series);
     totals(&series);
     names(&series);
@@ -61,6 +62,32 @@ fn on_a(title: &[u8], second: u8, hash: u32, name: &[u8], room: usize) {
     let strings = sections::STRINGS_A;
     a[44] = second;
     ask(title, RunTimeEndian::Little, &a, &strings, hash, name, room);
+}
+
+// Case A with every number padded: as it is, since the byte at 36 is 0; with a bit in the eleventh and in the twelfth byte of the second code,
+// at 171 and 172; with one in the code 0 behind it, which ends at 189; with the pool's last byte, at 216, continued, so that the next byte is
+// missing, and with a bit in it besides; and with a bit in the tag, at 99, and the table's last byte, at 132, continued.
+fn padded() {
+    on_padded(b"padded A, 4 abc", 36, 0, 4, b"abc");
+    on_padded(b"padded A, 7 de", 36, 0, 7, b"de");
+    on_padded(b"padded A, 9 e", 36, 0, 9, b"e");
+    on_padded(b"padded A, 81 at 171, 7 de", 171, 0x81, 7, b"de");
+    on_padded(b"padded A, 81 at 171, 4 abc", 171, 0x81, 4, b"abc");
+    on_padded(b"padded A, 01 at 172, 7 de", 172, 1, 7, b"de");
+    on_padded(b"padded A, 01 at 188, 7 de", 188, 1, 7, b"de");
+    on_padded(b"padded A, 80 at 216, 9 e", 216, 0x80, 9, b"e");
+    on_padded(b"padded A, 81 at 216, 9 e", 216, 0x81, 9, b"e");
+    on_padded(b"padded A, 81 at 99, 7 de", 99, 0x81, 7, b"de");
+    on_padded(b"padded A, 80 at 132, 7 de", 132, 0x80, 7, b"de");
+}
+
+fn on_padded(title: &[u8], at: usize, byte: u8, hash: u32, name: &[u8]) {
+    let mut s = sections::PADDED_A;
+    let strings = sections::STRINGS_A;
+    if at < s.len() {
+        s[at] = byte;
+        ask(title, RunTimeEndian::Little, &s, &strings, hash, name, 4);
+    }
 }
 
 // Records: none, fewer than the total, as many, and more.

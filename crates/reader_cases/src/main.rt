@@ -28,7 +28,9 @@ fn main() {
     lengths_big();
     unsigned();
     unsigned_limits();
+    unsigned_padded();
     small();
+    u16_padded();
     passed(b"\x01\x02\x03\x04\x05\x06\x07\x08\x09\x0a");
     // case A's .debug_str
     named(b"\x00abc\x00de\x00");
@@ -299,6 +301,30 @@ fn unsigned_limits() {
     show::u64_read(read::unsigned(b"\x80\x80\x80\x80\x80\x80\x80\x80\x80", 0, 9));
 }
 
+// Document 02, No. 8: any number of bytes past the tenth, as long as they add only zero bits.
+fn unsigned_padded() {
+    let mut s = *b"\x85\x80\x80\x80\x80\x80\x80\x80\x80\x80\x80\x80\x80\x80\x80\x80\x00\xff";
+    case(b"unsigned 85, fifteen 80, then 00");
+    show::u64_read(read::unsigned(&s, 0, 18));
+    case(b"unsigned 85, fifteen 80, then 00, at 7");
+    show::u64_read(read::unsigned(&s, 7, 18));
+    case(b"unsigned 85, fifteen 80, the part ends");
+    show::u64_read(read::unsigned(&s, 0, 16));
+    case(b"unsigned 85, nine 80, the part ends");
+    show::u64_read(read::unsigned(&s, 0, 10));
+    s[9] = 0x82;
+    case(b"unsigned 85, eight 80, 82, the part ends");
+    show::u64_read(read::unsigned(&s, 0, 10));
+    s[9] = 0x81;
+    case(b"unsigned 85, eight 80, 81, six 80, then 00");
+    show::u64_read(read::unsigned(&s, 0, 17));
+    s[12] = 0x81;
+    case(b"unsigned, a bit in the thirteenth byte, the part ends");
+    show::u64_read(read::unsigned(&s, 0, 13));
+    case(b"unsigned, a bit in the thirteenth byte, the part ends before it");
+    show::u64_read(read::unsigned(&s, 0, 12));
+}
+
 fn small() {
     case(b"u16 7f");
     show::u16_read(read::u16(b"\x7f", 0, 1));
@@ -318,6 +344,23 @@ fn small() {
     show::u16_read(read::u16(b"\x80", 0, 1));
     case(b"u16 ff ff, the third byte past the part");
     show::u16_read(read::u16(b"\xff\xff\x03", 0, 2));
+}
+
+// The same as `unsigned_padded`, past the third byte of 16 bits.
+fn u16_padded() {
+    let mut s = *b"\xff\xff\x83\x80\x80\x80\x80\x80\x80\x80\x80\x80\x80\x80\x80\x80\x00\xff";
+    case(b"u16 ff ff 83, thirteen 80, then 00");
+    show::u16_read(read::u16(&s, 0, 18));
+    case(b"u16 ff ff 83, thirteen 80, the part ends");
+    show::u16_read(read::u16(&s, 0, 16));
+    case(b"u16 ff ff 83, the part ends");
+    show::u16_read(read::u16(&s, 0, 3));
+    s[3] = 1;
+    case(b"u16 ff ff 83 01");
+    show::u16_read(read::u16(&s, 0, 18));
+    s[2] = 0x84;
+    case(b"u16 ff ff 84, the part ends");
+    show::u16_read(read::u16(&s, 0, 3));
 }
 
 fn skips(s: &[u8]) {

@@ -4,6 +4,10 @@
 //! its own and a fixed seed, so that each run makes the same ones), writes them
 //! to `cases.bin`, reads `cases.bin` back from memory, has gimli's own code
 //! answer each case, and writes the answers to `answers.txt`, a line for each.
+//! LEB128 numbers are read after section 7.6 of DWARF 5 by the file that
+//! tools/oracle has for it. It holds each to gimli's own reading, but where the
+//! tenth byte (the third for 16 bits) has the continuation bit: gimli refuses
+//! these.
 //!
 //! How to build and run it: `cargo run --release -j1 -- OUTPUT_DIRECTORY`.
 //! It needs no other crate. The features `read`, `read-core` and `std` are
@@ -93,6 +97,9 @@ mod read {
             R: Reader;
     }
 }
+
+#[path = "../../../tools/oracle/src/leb128_7_6.rs"]
+mod leb128_7_6;
 
 use common::DebugStrOffset;
 use endianity::RunTimeEndian;
@@ -204,8 +211,8 @@ fn answer(case: &Case) -> Answer {
         LENGTH => part
             .read_initial_length()
             .map(|(v, format)| vec![v as u64, format.word_size().into()]),
-        ULEB128 => leb128::read::unsigned(&mut part).map(|v| vec![v]),
-        ULEB128_U16 => leb128::read::u16(&mut part).map(|v| vec![v.into()]),
+        ULEB128 => leb128_7_6::unsigned(&mut part).map(|v| vec![v]),
+        ULEB128_U16 => leb128_7_6::u16(&mut part).map(|v| vec![v.into()]),
         SKIP => part.skip(arg).map(|()| vec![]),
         SPLIT => part.split(arg).map(|taken| {
             let start = taken.offset_from(section);
@@ -296,6 +303,28 @@ impl Random {
         }
         out
     }
+}
+
+/// The most bytes of a padded number.
+const LONG: usize = 200;
+
+/// Whether a number has no more bits than that many LEB128 bytes.
+fn fits(value: u64, count: usize) -> bool {
+    (u64::BITS - value.leading_zeros()) as usize <= 7 * count
+}
+
+/// The first bytes of a number that goes on behind them.
+fn continuing(value: u64, count: usize) -> Vec<u8> {
+    (0..count as u32)
+        .map(|i| value.checked_shr(7 * i).unwrap_or(0) as u8 | 0x80)
+        .collect()
+}
+
+/// A number in that many bytes.
+fn padded_number(value: u64, count: usize) -> Vec<u8> {
+    let mut bytes = continuing(value, count);
+    bytes[count - 1] &= 0x7f;
+    bytes
 }
 
 struct Maker {
@@ -450,6 +479,84 @@ impl Maker {
         }
     }
 
+    /// LEB128 numbers that are padded, and what may be wrong in the padding.
+    /// `most` is the number of bytes that have bits of the width, `largest` the
+    /// largest number, whose last byte has all bits that may be set there.
+    fn padded(&mut self, op: u8, most: usize, largest: u64) {
+        let mut counts: Vec<usize> = (2..=most + 2).chain([12, 16, 17, 40]).collect();
+        counts.dedup();
+        for value in [0, 1, 300, largest / 2 + 1, largest] {
+            for count in counts.iter().copied().filter(|c| fits(value, *c)) {
+                let number = padded_number(value, count);
+                self.part_ends(op, &number);
+                self.part_goes_on(op, &number);
+            }
+        }
+        self.part_ends(op, &padded_number(largest, LONG));
+        self.part_goes_on(op, &padded_number(0, LONG));
+
+        // A set bit beyond the width, in the last byte of the width.
+        let lowest = (largest >> (7 * (most - 1))) as u8 + 1;
+        for bits in [lowest, 0x40, 0x7f] {
+            self.bits_behind(op, most - 1, largest, bits);
+        }
+        // In the first byte after it.
+        for bits in [0x01, 0x40, 0x7f] {
+            self.bits_behind(op, most, largest, bits);
+        }
+        // In a later one.
+        for count in [most + 1, most + 2, 15, 16, 39] {
+            self.bits_behind(op, count, largest, 0x01);
+        }
+        for last in [0x01, 0x81] {
+            let bytes = [&continuing(largest, LONG - 1)[..], &[last]].concat();
+            self.part_ends(op, &bytes);
+        }
+
+        // The part ends inside the padding.
+        for count in [most, most + 1, most + 2, 15, 16, 17, 40] {
+            for value in [0, largest] {
+                self.part_ends(op, &continuing(value, count));
+            }
+        }
+        self.part_ends(op, &continuing(largest, LONG));
+    }
+
+    /// Set bits beyond the width in a byte that stands behind `count` bytes of
+    /// a padded number, with and without the continuation bit.
+    fn bits_behind(&mut self, op: u8, count: usize, largest: u64, bits: u8) {
+        for value in [0, largest] {
+            for last in [bits, bits | 0x80] {
+                let bytes = [&continuing(value, count)[..], &[last]].concat();
+                self.part_ends(op, &bytes);
+                self.part_goes_on(op, &bytes);
+            }
+        }
+    }
+
+    /// The part ends with these bytes; then the section does too, or goes on
+    /// with a byte that would end a number.
+    fn part_ends(&mut self, op: u8, bytes: &[u8]) {
+        for beyond in [0, 1] {
+            let at = 2 * beyond;
+            let mut section = self.random.bytes(at);
+            section.extend(bytes);
+            let end = section.len();
+            section.resize(end + beyond, 0);
+            let order = self.any_order();
+            self.add(op, order, at, end, 0, &section);
+        }
+    }
+
+    /// The part goes on behind these bytes.
+    fn part_goes_on(&mut self, op: u8, bytes: &[u8]) {
+        let mut section = self.random.bytes(1);
+        section.extend(bytes);
+        section.extend([0x00, 0x01]);
+        let order = self.any_order();
+        self.add(op, order, 1, section.len(), 0, &section);
+    }
+
     fn skip_and_split(&mut self) {
         for op in [SKIP, SPLIT] {
             for (len, at, end) in [
@@ -546,6 +653,24 @@ fn check_by_hand() {
             "uleb128 ok 18446744073709551615 10",
         ),
         (ULEB128, 0, 0, 0, nine_ff_and(2), "uleb128 refused 7 0"),
+        (ULEB128, 0, 0, 0, nine_ff_and(0x82), "uleb128 refused 7 0"),
+        (ULEB128, 0, 0, 0, nine_ff_and(0x81), "uleb128 refused 1 10"),
+        (
+            ULEB128,
+            0,
+            0,
+            0,
+            [nine_ff_and(0x81), vec![0x80, 0x00, 0x01]].concat(),
+            "uleb128 ok 18446744073709551615 12",
+        ),
+        (
+            ULEB128,
+            0,
+            0,
+            0,
+            [nine_ff_and(0x81), vec![0x80, 0x81]].concat(),
+            "uleb128 refused 7 0",
+        ),
         (
             ULEB128_U16,
             0,
@@ -560,6 +685,30 @@ fn check_by_hand() {
             0,
             0,
             vec![0xff, 0xff, 0x04],
+            "uleb128_u16 refused 7 0",
+        ),
+        (
+            ULEB128_U16,
+            0,
+            0,
+            0,
+            vec![0xff, 0xff, 0x83, 0x80, 0x00, 0x01],
+            "uleb128_u16 ok 65535 5",
+        ),
+        (
+            ULEB128_U16,
+            0,
+            0,
+            0,
+            vec![0xff, 0xff, 0x83, 0x80],
+            "uleb128_u16 refused 1 4",
+        ),
+        (
+            ULEB128_U16,
+            0,
+            0,
+            0,
+            vec![0x80, 0x80, 0x80, 0x01],
             "uleb128_u16 refused 7 0",
         ),
         (
@@ -631,6 +780,8 @@ fn main() {
     maker.leb128(ULEB128_U16, 4, &[0, 1, 2, 3, 4, 5, 0x7f], 6);
     maker.skip_and_split();
     maker.strings();
+    maker.padded(ULEB128, 10, u64::MAX);
+    maker.padded(ULEB128_U16, 3, u16::MAX.into());
     let cases = maker.out;
     assert!(cases.len() <= MOST_BYTES, "{} bytes", cases.len());
 

@@ -5,7 +5,7 @@ use crate::ffi::IndexHandle;
 use gimli::bytes::{Order, Writer};
 use gimli::case::Case;
 use gimli::lent::{Bytes, Memory};
-use gimli::{DebugNames, EndianSlice, NameIndexHeader, Reader, RunTimeEndian, leb128};
+use gimli::{DebugNames, NameIndexHeader, Reader, RunTimeEndian};
 
 pub struct Copy {
     case: Case,
@@ -64,7 +64,7 @@ impl Copy {
     /// cannot be read.
     pub fn end_table(&mut self, from: usize, to: usize) {
         let place = |place: usize| place - self.there + self.here;
-        let table = EndianSlice::new(&self.case.names[place(from)..place(to)], RunTimeEndian::Little);
+        let table = Bytes::new(&self.case.names[place(from)..place(to)], RunTimeEndian::Little);
         let bad = place(from) + good_declarations(table);
         self.case.names[bad] = 0;
     }
@@ -83,12 +83,12 @@ fn good_declarations(table: Bytes) -> usize {
 
 /// Passes over a declaration; none where it cannot be read.
 fn declaration(table: &mut Bytes) -> Option<()> {
-    leb128::read::unsigned(table).ok()?;
-    if leb128::read::u16(table).ok()? == 0 {
+    table.read_uleb128().ok()?;
+    if table.read_uleb128_u16().ok()? == 0 {
         return None;
     }
     loop {
-        match (leb128::read::u16(table).ok()?, leb128::read::u16(table).ok()?) {
+        match (table.read_uleb128_u16().ok()?, table.read_uleb128_u16().ok()?) {
             (0, 0) => return Some(()),
             (0, _) | (_, 0) => return None,
             _ => {}

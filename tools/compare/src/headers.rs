@@ -7,7 +7,7 @@ use crate::tally::Call;
 use crate::twin::View;
 use gimli::lent::Bytes;
 use gimli::pool::left;
-use gimli::{DebugNames, EndianSlice, NameIndexHeader, NameIndexHeaderIter, Reader};
+use gimli::{DebugNames, NameIndexHeader, NameIndexHeaderIter, Reader};
 
 /// So many steps follow the first end.
 const AFTER_END: usize = 2;
@@ -50,7 +50,7 @@ pub fn cursors(desk: &mut Desk) {
             desk.same(Call::HeaderAt, || format!("at {at}"), desk.ours.header_at(at), header);
             continue;
         }
-        let rest = EndianSlice::new(&desk.lent.names.slice()[at..], desk.lent.names.endian());
+        let rest = Bytes::new(&desk.lent.names.slice()[at..], desk.lent.names.endian());
         let mut cursor = DebugNames::from(rest).headers();
         let answer = cursor.next();
         let step = step(&desk.view(), at, &answer, &cursor);
@@ -99,7 +99,7 @@ fn header_at(desk: &mut Desk, at: usize, answer: &Stepped) {
                 status: 0,
                 kind: 1,
                 value: told.length() as u64,
-                augmentation: string.map_or(0, |string| string.offset_from(view.lent.names)),
+                augmentation: string.map_or(0, |string| string.offset_from(&view.lent.names)),
                 augmentation_len: string.map_or(0, |string| string.len()),
                 version: told.version().into(),
             }

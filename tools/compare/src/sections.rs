@@ -1,13 +1,14 @@
-//! Section K of a seed: valid ones, damaged ones, those of the oracle that are not random, and any of them with bytes changed.
+//! Section K of a seed: valid ones, padded and damaged ones, those of the oracle that are not random, and any of them with bytes changed.
 
 use crate::desk::other;
 use gimli::case::Case;
-use gimli::damage::{self, Damage};
+use gimli::damage::{self, Damage, PADDED_DAMAGES, PADDINGS};
 use gimli::model::{Index, Section};
 use gimli::random::Random;
-use gimli::{entries, fixed, real, several, tables, valid};
+use gimli::{entries, fixed, padded, real, several, tables, valid};
 
 pub struct Sections {
+    /// The paddings of numbers among them.
     damages: Vec<Damage>,
     /// Those that are not random.
     fixed: Vec<Case>,
@@ -16,8 +17,10 @@ pub struct Sections {
 impl Sections {
     pub fn new() -> Sections {
         let cuts = fixed::cuts().into_iter().map(|(_, cut)| cut).collect();
-        let fixed = [fixed::cases(), cuts, entries::cases(), tables::cases(), several::cases(), real::cases()];
-        Sections { damages: damage::all().collect(), fixed: fixed.concat() }
+        let padded = padded::real_cases().into_iter().map(|(_, padded)| padded).collect();
+        let fixed = [fixed::cases(), cuts, entries::cases(), tables::cases(), several::cases(), real::cases(), padded];
+        let damages = damage::all().chain(PADDINGS).chain(PADDED_DAMAGES).collect();
+        Sections { damages, fixed: fixed.concat() }
     }
 
     /// A section depends on the seed and its number alone. The random numbers behind it are for the choice of the calls.

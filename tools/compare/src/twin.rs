@@ -3,7 +3,7 @@
 use crate::ffi::{Answer, Entry, Facts, Str};
 use gimli::lent::{Bytes, Lent};
 use gimli::pool::left;
-use gimli::{Error, NameEntry, NameEntryIter, NameIndex, NameTypeUnit};
+use gimli::{Error, NameEntry, NameEntryIter, NameIndex, NameTypeUnit, Reader};
 use std::fmt::{self, Debug, Write};
 
 /// The kinds of units.
@@ -52,7 +52,7 @@ impl View<'_> {
     /// Where a string stands in .debug_str.
     pub fn string(&self, answer: gimli::Result<Bytes>) -> Str {
         match answer {
-            Ok(string) => Str { status: 0, kind: 1, value: string.offset_from(self.lent.strings) as u64, len: string.len() },
+            Ok(string) => Str { status: 0, kind: 1, value: string.offset_from(&self.lent.strings) as u64, len: string.len() },
             Err(error) => {
                 let Answer { status, value, .. } = self.refusal(error);
                 Str { status, value, ..Str::default() }

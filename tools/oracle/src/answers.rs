@@ -13,7 +13,7 @@ use crate::hashes;
 use crate::lent::{Bytes, Lent, Memory};
 use crate::pool;
 use crate::query;
-use gimli::{DebugNames, DebugStr, NameAbbreviation, NameIndex, NameIndexHeader, NameTableIndex, NameTypeUnit};
+use gimli::{DebugNames, DebugStr, NameAbbreviation, NameIndex, NameIndexHeader, NameTableIndex, NameTypeUnit, Reader};
 
 /// A damaged section may claim many units or names: no more than this many of a list are asked for, and the two after them.
 pub const MOST: u32 = 40;
@@ -181,7 +181,7 @@ fn header_line(lent: &Lent, header: &NameIndexHeader<Bytes>) -> String {
         header.abbrev_table_size(),
     ];
     let augmentation = match header.augmentation_string() {
-        Some(string) => format!("{} {}", string.offset_from(lent.names), string.len()),
+        Some(string) => format!("{} {}", string.offset_from(&lent.names), string.len()),
         None => "-".to_string(),
     };
     format!(
@@ -279,7 +279,7 @@ fn strings(lent: &Lent, index: &NameIndex<Bytes>, out: &mut Answers) {
         let offset = index.name_string_offset(name).map(|offset| offset.0);
         out.call(lent, "string_offset", &argument, offset);
         let string = index.name_string(name, &section);
-        let string = string.map(|s| format!("{} {}", s.offset_from(lent.strings), s.len()));
+        let string = string.map(|s| format!("{} {}", s.offset_from(&lent.strings), s.len()));
         out.call(lent, "string", &argument, string);
     }
 }

@@ -1,11 +1,12 @@
 //! What must hold before anything is written: gimli's answers for a section that was worked out by hand, that the sections that are
-//! meant to be valid are valid for gimli, and that there is enough of everything.
+//! meant to be valid are valid for gimli, that padded ones are answered as before the padding, and that there is enough of everything.
 
 use crate::answers::{self, Answers, CALLS, REFUSALS};
+use crate::bytes::Order;
 use crate::case::Case;
 use crate::fixed;
 use crate::lent::{Bytes, Memory};
-use gimli::{DebugNames, NameIndex};
+use gimli::{DebugNames, EndianSlice, NameIndex, Reader, RunTimeEndian};
 
 /// Case A is answered as it was by hand.
 pub fn case_a() {
@@ -103,4 +104,71 @@ fn entries(index: &NameIndex<Bytes>) {
             entry.unwrap();
         }
     }
+}
+
+/// The queries on a section and on its padded form have the same answers, and there are some. It gives how many lines of queries and of
+/// records there are.
+pub fn padded(case: &Case, padded: &Case) -> (usize, usize) {
+    let (lines, others) = (queries_without_places(case), queries_without_places(padded));
+    let different = lines.iter().zip(&others).find(|(line, other)| line != other);
+    assert!(lines == others, "a padded section is answered otherwise: {different:?}");
+    let records = lines.iter().filter(|line| line.starts_with("record ")).count();
+    assert!(records < lines.len(), "no queries on a padded section");
+    (lines.len() - records, records)
+}
+
+/// The lines of queries and of their records, without the places that a padding moves: those of a record's index and entry, and that of
+/// a refusal 1.
+fn queries_without_places(case: &Case) -> Vec<String> {
+    let text = answers::text(case);
+    let without = |line: &str| {
+        let mut words: Vec<&str> = line.split(' ').collect();
+        match words[0] {
+            "record" => drop(words.drain(2..4)),
+            "query" if words[4..].starts_with(&["refused", "1"]) => words.truncate(6),
+            "query" => {}
+            _ => return None,
+        }
+        Some(words.join(" "))
+    };
+    text.lines().filter_map(without).collect()
+}
+
+/// How many entries of a section's names can be read that gimli's own reader does not read, since a number before them or in them is
+/// longer than it allows.
+pub fn entries_beyond_gimli(case: &Case) -> usize {
+    let memory = Memory::of(case);
+    let order = match case.order {
+        Order::Little => RunTimeEndian::Little,
+        Order::Big => RunTimeEndian::Big,
+    };
+    readable(memory.lend().names) - readable(EndianSlice::new(&case.names, order))
+}
+
+fn readable(section: impl Reader) -> usize {
+    let mut count = 0;
+    for header in DebugNames::from(section).headers() {
+        let Ok(index) = header.and_then(|header| header.index()) else {
+            continue;
+        };
+        for series in index.names().filter_map(|name| index.name_entries(name).ok()) {
+            count += series.take_while(Result::is_ok).count();
+        }
+    }
+    count
+}
+
+/// The sections with each padding have enough entries that gimli's own reader does not read; and those with damages in padded numbers,
+/// whose answers these are, have enough of the refusals that such damages lead to.
+pub fn enough_padded(entries: &[usize], damaged: &Answers) {
+    assert!(entries.iter().all(|count| *count >= TIMES), "too few entries of padded sections: {entries:?}");
+    for (call, number, count) in padded_refusals(damaged) {
+        assert!(count >= TIMES, "{call} is refused {number} {count} times in padded sections");
+    }
+}
+
+/// How often tables and pools are refused with 7, for a set bit beyond the width, and with 1, for a missing byte.
+pub fn padded_refusals(damaged: &Answers) -> [(&'static str, u8, usize); 4] {
+    let count = |call: &str, number: u8| damaged.tally.get(&(call.to_string(), number)).copied().unwrap_or(0);
+    [("index", 7), ("index", 1), ("next", 7), ("next", 1)].map(|(call, number)| (call, number, count(call, number)))
 }

@@ -4,6 +4,7 @@
 use crate::bytes::{Writer, leb128};
 use crate::case::Case;
 use crate::model::{COUNTS, Count, Index, Section};
+use crate::padded::{self, Number, Pool};
 use crate::random::Random;
 
 /// A damage.
@@ -47,6 +48,19 @@ const TABLE_DAMAGES: [Damage; 2] = [start_changed, stored_hash_changed];
 pub fn all() -> impl Iterator<Item = Damage> {
     DAMAGES.into_iter().chain(ENTRY_DAMAGES).chain(TABLE_DAMAGES)
 }
+
+/// No damages: numbers that have more bytes than they need, and all the rest fits. The section stays valid.
+pub const PADDINGS: [Damage; 2] = [table_padded, pool_padded];
+
+/// Damages of such numbers.
+pub const PADDED_DAMAGES: [Damage; 6] = [
+    table_bit_beyond,
+    pool_bit_beyond,
+    table_cut_in_number,
+    pool_cut_in_number,
+    table_cut_behind_bit,
+    pool_cut_behind_bit,
+];
 
 /// One of the indexes.
 fn some_index<'a>(random: &mut Random, section: &'a mut Section) -> &'a mut Index {
@@ -210,8 +224,8 @@ fn length_wrong(random: &mut Random, section: Section) -> Case {
     Case::of(&section, bytes)
 }
 
-/// The bytes of a number in an abbreviation table are no number: too large, or too long. As a code, those of three bytes are
-/// numbers, and what follows them is wrong then.
+/// The bytes of a number in an abbreviation table are no number, since it is too large, or a padded 0 or 1. As a code, some that are
+/// too large for 16 bits are numbers, and what follows them is wrong then.
 fn bad_leb128(random: &mut Random, mut section: Section) -> Case {
     let bad: Vec<u8> = match random.below(7) {
         0 => [vec![0xff; 9], vec![2]].concat(),
@@ -318,7 +332,7 @@ fn pool_byte_changed(random: &mut Random, mut section: Section) -> Case {
     Case::encoded(&section)
 }
 
-/// Bytes that are no number, or one that no table is likely to declare, stand before some byte of the pool or at its end.
+/// Bytes that are no number, padding, or a number that no table is likely to declare, stand before some byte of the pool or at its end.
 fn pool_bad_leb128(random: &mut Random, mut section: Section) -> Case {
     let bad = random.pick(&[[vec![0xff; 9], vec![2]].concat(), vec![0x80; 11], [vec![0xff; 9], vec![0]].concat()]);
     let pool = &mut some_index(random, &mut section).pool;
@@ -394,4 +408,147 @@ fn stored_hash_changed(random: &mut Random, mut section: Section) -> Case {
     let others: Vec<u32> = others.into_iter().filter(|other| *other != hash).collect();
     hashes[name] = random.pick(&others);
     Case::encoded(&section)
+}
+
+/// Numbers of an abbreviation table are padded.
+fn table_padded(random: &mut Random, section: Section) -> Case {
+    in_table(random, section, pad_some)
+}
+
+/// Numbers of a pool are padded.
+fn pool_padded(random: &mut Random, section: Section) -> Case {
+    in_pool(random, section, pad_some)
+}
+
+/// A padded number of an abbreviation table has a set bit beyond its width.
+fn table_bit_beyond(random: &mut Random, section: Section) -> Case {
+    in_table(random, section, bit_beyond)
+}
+
+/// A padded number of a pool has a set bit beyond its width.
+fn pool_bit_beyond(random: &mut Random, section: Section) -> Case {
+    in_pool(random, section, bit_beyond)
+}
+
+/// An abbreviation table ends inside or right behind a padded number.
+fn table_cut_in_number(random: &mut Random, section: Section) -> Case {
+    in_table(random, section, cut_in_number)
+}
+
+/// A pool ends inside or right behind a padded number.
+fn pool_cut_in_number(random: &mut Random, section: Section) -> Case {
+    in_pool(random, section, cut_in_number)
+}
+
+/// An abbreviation table ends behind a byte that has a set bit beyond the width of its number.
+fn table_cut_behind_bit(random: &mut Random, section: Section) -> Case {
+    in_table(random, section, cut_behind_bit)
+}
+
+/// A pool ends behind a byte that has a set bit beyond the width of its number.
+fn pool_cut_behind_bit(random: &mut Random, section: Section) -> Case {
+    in_pool(random, section, cut_behind_bit)
+}
+
+/// A table or a pool ends behind so many bytes of one of its numbers.
+struct Cut {
+    which: usize,
+    bytes: usize,
+}
+
+/// What is done to the numbers of a table or of a pool, and where that is cut then.
+type Change = fn(&mut Random, &mut [Number]) -> Option<Cut>;
+
+/// Changes numbers of an abbreviation table. Where it is cut, what is behind the cut belongs to the pool.
+fn in_table(random: &mut Random, mut section: Section, change: Change) -> Case {
+    let index = some_index(random, &mut section);
+    let mut numbers = padded::table(index);
+    if let Some(cut) = change(random, &mut numbers) {
+        let before: usize = numbers[..cut.which].iter().map(Number::size).sum();
+        index.wrong.push((Count::AbbreviationBytes, (before + cut.bytes) as u32));
+    }
+    Case::encoded(&section)
+}
+
+/// Changes numbers of a pool. Offsets of names and parents are those of the pool that is not cut.
+fn in_pool(random: &mut Random, mut section: Section, change: Change) -> Case {
+    let order = section.order;
+    let index = some_index(random, &mut section);
+    if let Some(mut pool) = Pool::of(order, index) {
+        let cut = change(random, &mut pool.numbers());
+        if let (Some(places), Some(cut)) = (pool.put(index), cut) {
+            index.pool.truncate(places[cut.which] + cut.bytes);
+        }
+    }
+    Case::encoded(&section)
+}
+
+/// Pads one of the numbers, about half of them, or all.
+fn pad_some(random: &mut Random, numbers: &mut [Number]) -> Option<Cut> {
+    let one = some_number(random, numbers)?;
+    let how = random.below(3);
+    for (which, number) in numbers.iter_mut().enumerate() {
+        let padded = match how {
+            0 => which == one,
+            1 => random.once_in(2),
+            _ => true,
+        };
+        if padded {
+            number.pad(match random.below(12) {
+                0 => 40,
+                1 | 2 => number.enough() + 1,
+                _ => random.between(2, 20),
+            });
+        }
+    }
+    None
+}
+
+fn some_number(random: &mut Random, numbers: &[Number]) -> Option<usize> {
+    (!numbers.is_empty()).then(|| random.below(numbers.len()))
+}
+
+/// Pads numbers, and sets a bit beyond the width of one of them.
+fn bit_beyond(random: &mut Random, numbers: &mut [Number]) -> Option<Cut> {
+    pad_some(random, numbers);
+    let which = some_number(random, numbers)?;
+    set_bit_beyond(random, &mut numbers[which]);
+    None
+}
+
+/// Pads a number, and cuts behind as many of its bytes as hold all its bits, behind any number of them, or behind all.
+fn cut_in_number(random: &mut Random, numbers: &mut [Number]) -> Option<Cut> {
+    let which = some_number(random, numbers)?;
+    let number = &mut numbers[which];
+    let enough = number.enough();
+    number.pad(random.between(enough + 1, 20));
+    let bytes = match random.below(4) {
+        0 => enough,
+        1 => number.size(),
+        _ => random.between(1, number.size()),
+    };
+    Some(Cut { which, bytes })
+}
+
+/// Sets a bit beyond the width of a padded number, and cuts behind its byte.
+fn cut_behind_bit(random: &mut Random, numbers: &mut [Number]) -> Option<Cut> {
+    let which = some_number(random, numbers)?;
+    let place = set_bit_beyond(random, &mut numbers[which]);
+    Some(Cut { which, bytes: place + 1 })
+}
+
+/// Pads a number and sets bits beyond its width, in one byte: the last that has bits of the number, with the continuation bit, or a later
+/// one, with and without. It gives the place of that byte in the number.
+fn set_bit_beyond(random: &mut Random, number: &mut Number) -> usize {
+    let enough = number.enough();
+    number.pad(random.between(enough + 2, 20));
+    let len = number.size();
+    let place = if random.once_in(2) { enough - 1 } else { random.between(enough, len - 1) };
+    let own = number.bits.saturating_sub(7 * place);
+    number.bytes[place] |= (random.between(1, 0x7f >> own) << own) as u8;
+    if place >= enough && random.once_in(2) {
+        number.bytes[place] &= 0x7f;
+        number.bytes.drain(place + 1..len);
+    }
+    place
 }

@@ -104,12 +104,12 @@ fn cuts(order: Order) -> Vec<Section> {
     sections
 }
 
-/// LEB128 numbers of one, two, five and ten bytes, the largest number, one that is too large, and one that is too long.
+/// LEB128 numbers of one, two, five and ten bytes, the largest number, one that is too large, and a 0 of eleven bytes.
 fn numbers() -> Vec<Vec<u8>> {
     let too_large = [vec![0xff; 9], vec![2]].concat();
-    let too_long = [vec![0x80; 10], vec![0]].concat();
+    let eleven = [vec![0x80; 10], vec![0]].concat();
     let numbers = [leb128(5, 1), leb128(300, 1), leb128(0x1_2345_6789, 1), leb128(3, 10), leb128(u64::MAX, 1)];
-    [numbers.to_vec(), vec![too_large, too_long]].concat()
+    [numbers.to_vec(), vec![too_large, eleven]].concat()
 }
 
 /// An index with an entry of one attribute; then the same with the pool cut at each byte, each followed by the next index, but the
@@ -245,7 +245,7 @@ fn codes(wide: bool) -> Vec<Index> {
     let several = [(u64::MAX, vec![(3, 0x11)]), (128, Vec::new()), (300, vec![(5, 0x0f)]), (1 << 32, Vec::new())];
     let twice = [(1, vec![(3, 0x11)]), (1, vec![(5, 0x0b), (5, 0x0b)]), (2, Vec::new()), (2, vec![(3, 0x11)])];
     let too_large = [vec![0xff; 9], vec![2]].concat();
-    let too_long = [vec![0x80; 10], vec![0]].concat();
+    let eleven = [vec![0x80; 10], vec![0]].concat();
     let pools: [&[u8]; 11] = [
         &[2, 0],
         &[0x7f],
@@ -253,7 +253,7 @@ fn codes(wide: bool) -> Vec<Index> {
         &[0x81, 0x80, 0x80, 0, 7],
         &largest,
         &too_large,
-        &too_long,
+        &eleven,
         &[0x80],
         &[0x81, 0x80],
         &[0xff, 0xff, 0xff],

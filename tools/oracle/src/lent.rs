@@ -2,10 +2,9 @@
 
 use crate::bytes::Order;
 use crate::case::Case;
-use gimli::{EndianSlice, Error, RunTimeEndian};
+use gimli::{Error, RunTimeEndian};
 
-/// What gimli reads from.
-pub type Bytes<'a> = EndianSlice<'a, RunTimeEndian>;
+pub use crate::reader::Bytes;
 
 /// The bytes around and between the two sections: an address belongs to one section at most, also where it is a section's end.
 const GAP: usize = 64;
@@ -31,7 +30,7 @@ impl Memory {
     }
 
     pub fn lend(&self) -> Lent<'_> {
-        let part = |from: usize, len: usize| EndianSlice::new(&self.bytes[from..from + len], self.order);
+        let part = |from: usize, len: usize| Bytes::new(&self.bytes[from..from + len], self.order);
         Lent { names: part(GAP, self.names), strings: part(GAP + self.names + GAP, self.strings) }
     }
 }

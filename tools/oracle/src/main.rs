@@ -3,28 +3,33 @@
 //!     GIMLI_SRC=FOLDER cargo run --release -- OUTPUT_FOLDER
 //!
 //! README.md has the whole. What is where: `random`, the random numbers; `bytes`, numbers into bytes; `model`, what a section is
-//! made of; `valid`, valid sections; `damage`, damaged ones; `fixed`, `entries` and `tables`, sections that are not random; `real`, those
-//! of compilers, linkers and gdb; `several`, those for the query; `case`, the file of sections; `lent`, the sections as gimli reads them
-//! and its errors as refusals; `answers`, the calls, `hashes`, those on hash tables, `pool`, those on entries, and `query`, the query;
-//! `check`, what must hold of gimli, of the valid sections and of the whole. The library of this package, src/lib.rs, is gimli with all
+//! made of, and `parsed`, the way back; `valid`, valid sections; `damage`, damaged ones; `fixed`, `entries` and `tables`, sections that are
+//! not random; `real`, those of compilers, linkers and gdb; `several`, those for the query; `padded`, LEB128 numbers that are padded;
+//! `case`, the file of sections; `lent`, the sections as they are lent to gimli, and its errors as refusals; `reader` and `leb128_7_6`, how
+//! gimli reads them; `answers`, the calls, `hashes`, those on hash tables, `pool`, those on entries, and `query`, the query; `check`, what
+//! must hold of gimli, of the valid and the padded sections and of the whole. The library of this package, src/lib.rs, is gimli with all
 //! these modules beside it.
 
 use std::path::Path;
 
 use gimli::answers::{self, Answers, CALLS, REFUSALS};
 use gimli::case::{self, Case};
-use gimli::damage::{self, Damage};
+use gimli::damage::{self, Damage, PADDED_DAMAGES, PADDINGS};
 use gimli::model::Section;
 use gimli::random::Random;
-use gimli::{check, entries, fixed, real, several, tables, valid};
+use gimli::{check, entries, fixed, padded, real, several, tables, valid};
 
 const SEED: u64 = 0x0064_6562_7567_0005;
 
+/// Padded sections have a seed of their own.
+const PADDED_SEED: u64 = 0x0064_6562_7567_0008;
+
 /// How many random sections of each kind: valid ones, and damaged ones for each damage; and valid ones of several indexes for the query,
-/// of which there is one for each damage.
+/// of which there is one for each damage; and of each of these two those with each padding, and each damage of padded numbers.
 const VALID: usize = 300;
 const EACH_DAMAGE: usize = 56;
 const SEVERAL: usize = 30;
+const EACH_PADDING: usize = 13;
 
 /// The sections.
 struct Made {
@@ -33,11 +38,25 @@ struct Made {
     /// How many of them are damaged, and how many of these gimli answers otherwise than the section before the damage.
     damaged: usize,
     otherwise: usize,
+    padded: Padded,
+}
+
+/// What was met in padded sections.
+#[derive(Default)]
+struct Padded {
+    /// How many random ones there are that are valid; and how many entries, with each padding, gimli's own reader does not read.
+    valid: usize,
+    entries: [usize; PADDINGS.len()],
+    /// How many queries and records are the same as in the section before the padding: in these, and in those of tests/real.
+    same: (usize, usize),
+    same_real: (usize, usize),
+    /// The answers to those with a damage.
+    damaged: Answers,
 }
 
 fn made() -> Made {
     let mut random = Random(SEED);
-    let mut made = Made { cases: fixed::cases(), damaged: 0, otherwise: 0 };
+    let mut made = Made { cases: fixed::cases(), damaged: 0, otherwise: 0, padded: Padded::default() };
     for (whole, cut) in fixed::cuts() {
         made.add_damaged(&whole, cut);
     }
@@ -47,6 +66,12 @@ fn made() -> Made {
     made.cases.extend(real::cases());
     made.cases.extend(several::cases());
     made.add_random(&mut random, several::section, SEVERAL, 1);
+    let mut random = Random(PADDED_SEED);
+    for _ in 0..EACH_PADDING {
+        made.add_padded(&mut random, valid::section);
+        made.add_padded(&mut random, several::section);
+    }
+    made.add_padded_real();
     made
 }
 
@@ -66,6 +91,31 @@ impl Made {
                 let (valid, case) = damaged(random, maker, damage);
                 self.add_damaged(&valid, case);
             }
+        }
+    }
+
+    /// Adds a random section with each padding, and one with each damage of padded numbers.
+    fn add_padded(&mut self, random: &mut Random, maker: Maker) {
+        for (which, padding) in PADDINGS.into_iter().enumerate() {
+            let (valid, case) = damaged(random, maker, padding);
+            check::valid(&case);
+            add(&mut self.padded.same, check::padded(&valid, &case));
+            self.padded.entries[which] += check::entries_beyond_gimli(&case);
+            self.padded.valid += 1;
+            self.cases.push(case);
+        }
+        for damage in PADDED_DAMAGES {
+            let (valid, case) = damaged(random, maker, damage);
+            answers::ask(self.cases.len(), &case, &mut self.padded.damaged);
+            self.add_damaged(&valid, case);
+        }
+    }
+
+    /// Adds those of tests/real that are padded.
+    fn add_padded_real(&mut self) {
+        for (case, padded) in padded::real_cases() {
+            add(&mut self.padded.same_real, check::padded(&case, &padded));
+            self.cases.push(padded);
         }
     }
 
@@ -89,6 +139,11 @@ fn damaged(random: &mut Random, maker: Maker, damage: Damage) -> (Case, Case) {
     }
 }
 
+fn add(sum: &mut (usize, usize), (queries, records): (usize, usize)) {
+    sum.0 += queries;
+    sum.1 += records;
+}
+
 fn main() {
     let arguments: Vec<_> = std::env::args_os().skip(1).collect();
     let [folder] = arguments.as_slice() else {
@@ -106,6 +161,7 @@ fn main() {
     answers.totals(made.cases.len());
     report(&made, &sections, &answers);
     check::enough(made.cases.len(), made.otherwise, &answers);
+    check::enough_padded(&made.padded.entries, &made.padded.damaged);
 
     let folder = Path::new(folder);
     std::fs::create_dir_all(folder).expect("cannot make the folder");
@@ -119,6 +175,7 @@ fn report(made: &Made, sections: &[u8], answers: &Answers) {
     println!("{} sections, {longer} of 300 bytes or more, {} bytes in the file", made.cases.len(), sections.len());
     println!("{} damaged, {} of them answered otherwise than before the damage", made.damaged, made.otherwise);
     println!("{} lines of answers, {} bytes", answers.text.lines().count(), answers.text.len());
+    report_padded(&made.padded);
     for number in REFUSALS {
         println!("refused {number:16} {:6}", answers.refusals(number));
     }
@@ -128,5 +185,16 @@ fn report(made: &Made, sections: &[u8], answers: &Answers) {
     }
     for (kind, count) in &answers.kinds {
         println!("{kind:24} {count:6}");
+    }
+}
+
+/// What was met in padded sections.
+fn report_padded(padded: &Padded) {
+    let Padded { valid, entries: [tables, pools], same, same_real, damaged } = padded;
+    println!("{valid} padded, with {tables} entries of padded tables and {pools} of padded pools that gimli's own reader does not read");
+    println!("{} queries and {} records on them as before the padding", same.0, same.1);
+    println!("{} queries and {} records on those of tests/real as before the padding", same_real.0, same_real.1);
+    for (call, number, count) in check::padded_refusals(damaged) {
+        println!("{call} refused {number} {count} times where padded numbers are damaged");
     }
 }

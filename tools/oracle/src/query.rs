@@ -3,7 +3,7 @@
 use crate::answers::{Answers, MOST};
 use crate::hashes;
 use crate::lent::{Bytes, Lent};
-use gimli::{DebugNames, DebugStr, NameEntry, NameIndex, NameTableIndex, NameTypeUnit};
+use gimli::{DebugNames, DebugStr, NameEntry, NameIndex, NameTableIndex, NameTypeUnit, Reader};
 
 /// So many records are lent to a query.
 const LENT: usize = 4;
@@ -61,7 +61,7 @@ pub fn queries(lent: &Lent, index: &NameIndex<Bytes>, out: &mut Answers) {
         let Ok(string) = index.name_string(NameTableIndex(number), &section) else {
             continue;
         };
-        let (start, len) = (string.offset_from(lent.strings), string.len());
+        let (start, len) = (string.offset_from(&lent.strings), string.len());
         let hash_of = |number: u32| stored.get(number as usize).copied();
         let hash = hash_of(number).unwrap_or(0);
         ask(lent, hash, start, len, out);

@@ -1,8 +1,11 @@
--- `leb128::read::long_u16` meets its contract: two bytes are read as `two-bytes` says, and the third as `u16-third` says.
+-- `leb128::read::long_u16` meets its contract: two bytes are read as `two-bytes` says, and the third by `last_byte`.
 -- Assumes nothing.
+use mathlib.Core.Path.{refl, sym}
+use native.Mathlib.Omega.{arith}
 use borrow.Author.Needs.{needs}
 use borrow.Author.Tests.{le-ltb, lt-ltb}
-use Rattle.leb128.proofs.Leb128Limits.{twoBytes, u16-two, u16-third}
+use Rattle.leb128.proofs.Leb128Laws.{leb128-below}
+use Rattle.leb128.proofs.Leb128Limits.{twoBytes, u16-two}
 use Rattle.leb128.proofs.read.long_u16.Statement.{statement}
 use Rattle.leb128.proofs.read.long_u16.Tie as tie
 
@@ -24,8 +27,8 @@ returns c =
       c .before .e .given .1,
     )
 
-cast-t19 : tie.Need-cast-t19
-cast-t19 c = search needs
+cast-t17 : tie.Need-cast-t17
+cast-t17 c = search needs
 
 returns-2 : tie.Need-returns-2
 unfolding twoBytes
@@ -58,17 +61,17 @@ returns-3 c =
       c .before .e2 .given .1,
     )
 
-cast-t24 : tie.Need-cast-t24
-cast-t24 c = search needs
+cast-t22 : tie.Need-cast-t22
+cast-t22 c = search needs
 
-cast-t25 : tie.Need-cast-t25
-cast-t25 c = search needs
+cast-t23 : tie.Need-cast-t23
+cast-t23 c = search needs
 
-mul-t26 : tie.Need-mul-t26
-mul-t26 c = search needs
+mul-t24 : tie.Need-mul-t24
+mul-t24 c = search needs
 
-add-t27 : tie.Need-add-t27
-add-t27 c = search needs
+add-t25 : tie.Need-add-t25
+add-t25 c = search needs
 
 returns-4 : tie.Need-returns-4
 unfolding twoBytes
@@ -83,11 +86,36 @@ returns-4 c =
       lt-ltb _ _ (c .if2 .taken),
     )
 
-read-u8-requires-3 : tie.Need-read-u8-requires-3
-read-u8-requires-3 c κs = search needs
+last-byte-requires : tie.Need-last-byte-requires
+last-byte-requires c κs = search needs
 
-enum-known-r-3 : tie.Need-enum-known-r-3
-enum-known-r-3 c = search needs
+enum-known-c : tie.Need-enum-known-c
+enum-known-c c = search needs
+
+cast-t30 : tie.Need-cast-t30
+cast-t30 c = search needs
+
+cast-t32 : tie.Need-cast-t32
+cast-t32 c = search needs
+
+cast-t33 : tie.Need-cast-t33
+cast-t33 c = search needs
+
+mul-t34 : tie.Need-mul-t34
+mul-t34 c = search needs
+
+add-t35 : tie.Need-add-t35
+add-t35 c = search needs
+
+mul-t36 : tie.Need-mul-t36
+mul-t36 c =
+    let third = rw (c .before .before .c .given .1) at (c .before .before .before .before .last-byte .ensures 2 (omega arith) refl) in
+    omega (arith, leb128-below 2 _ _ _ _ (sym third))
+
+add-t37 : tie.Need-add-t37
+add-t37 c =
+    let third = rw (c .before .before .c .given .1) at (c .before .before .before .before .last-byte .ensures 2 (omega arith) refl) in
+    omega (arith, leb128-below 2 _ _ _ _ (sym third))
 
 enum-known-e-3 : tie.Need-enum-known-e-3
 enum-known-e-3 c = search needs
@@ -97,15 +125,14 @@ unfolding twoBytes
 returns-5 c =
     rw (
       u16-two,
-      ← c .before .before .before .before .before .before .before .before .before .before .before .before .before .read-u8 .ensures,
-      c .before .before .before .before .before .before .before .before .before .before .before .r .given .1,
-      le-ltb _ _ (c .before .before .before .before .before .before .before .before .before .if1 .left),
-      ← c .before .before .before .before .before .before .before .before .read-u82 .ensures,
-      c .before .before .before .before .before .before .r2 .given .1,
-      le-ltb _ _ (c .before .before .before .before .if2 .left),
-      u16-third,
-      ← c .before .before .before .read-u83 .ensures,
-      c .before .e3 .given .1,
+      ← c .before .before .before .before .before .before .before .before .before .before .before .before .before .before .read-u8 .ensures,
+      c .before .before .before .before .before .before .before .before .before .before .before .before .r .given .1,
+      le-ltb _ _ (c .before .before .before .before .before .before .before .before .before .before .if1 .left),
+      ← c .before .before .before .before .before .before .before .before .before .read-u82 .ensures,
+      c .before .before .before .before .before .before .before .r2 .given .1,
+      le-ltb _ _ (c .before .before .before .before .before .if2 .left),
+      ← c .before .before .before .before .last-byte .ensures 2 (omega arith) refl,
+      c .before .before .c .given .1,
     )
 
 returns-6 : tie.Need-returns-6
@@ -113,54 +140,14 @@ unfolding twoBytes
 returns-6 c =
     rw (
       u16-two,
-      ← c .before .before .before .before .before .before .before .before .before .before .before .before .before .before .read-u8 .ensures,
-      c .before .before .before .before .before .before .before .before .before .before .before .before .r .given .1,
-      le-ltb _ _ (c .before .before .before .before .before .before .before .before .before .before .if1 .left),
-      ← c .before .before .before .before .before .before .before .before .before .read-u82 .ensures,
-      c .before .before .before .before .before .before .before .r2 .given .1,
-      le-ltb _ _ (c .before .before .before .before .before .if2 .left),
-      u16-third,
-      ← c .before .before .before .before .read-u83 .ensures,
-      c .before .before .r3 .given .1,
-      lt-ltb _ _ (c .if3 .taken),
-    )
-
-cast-t33 : tie.Need-cast-t33
-cast-t33 c = search needs
-
-cast-t35 : tie.Need-cast-t35
-cast-t35 c = search needs
-
-cast-t36 : tie.Need-cast-t36
-cast-t36 c = search needs
-
-mul-t37 : tie.Need-mul-t37
-mul-t37 c = search needs
-
-add-t38 : tie.Need-add-t38
-add-t38 c = search needs
-
-mul-t39 : tie.Need-mul-t39
-mul-t39 c = search needs
-
-add-t40 : tie.Need-add-t40
-add-t40 c = search needs
-
-returns-7 : tie.Need-returns-7
-unfolding twoBytes
-returns-7 c =
-    rw (
-      u16-two,
-      ← c .before .before .before .before .before .before .before .before .before .before .before .before .before .before .read-u8 .ensures,
-      c .before .before .before .before .before .before .before .before .before .before .before .before .r .given .1,
-      le-ltb _ _ (c .before .before .before .before .before .before .before .before .before .before .if1 .left),
-      ← c .before .before .before .before .before .before .before .before .before .read-u82 .ensures,
-      c .before .before .before .before .before .before .before .r2 .given .1,
-      le-ltb _ _ (c .before .before .before .before .before .if2 .left),
-      u16-third,
-      ← c .before .before .before .before .read-u83 .ensures,
-      c .before .before .r3 .given .1,
-      le-ltb _ _ (c .if3 .left),
+      ← c .before .before .before .before .before .before .before .before .before .before .before .before .before .read-u8 .ensures,
+      c .before .before .before .before .before .before .before .before .before .before .before .r .given .1,
+      le-ltb _ _ (c .before .before .before .before .before .before .before .before .before .if1 .left),
+      ← c .before .before .before .before .before .before .before .before .read-u82 .ensures,
+      c .before .before .before .before .before .before .r2 .given .1,
+      le-ltb _ _ (c .before .before .before .before .if2 .left),
+      ← c .before .before .before .last-byte .ensures 2 (omega arith) refl,
+      c .before .e3 .given .1,
     )
 
 pub long-u16-spec : {M : Type 1} → statement M
@@ -171,27 +158,26 @@ long-u16-spec =
     enum-known-r
     enum-known-e
     returns
-    cast-t19
+    cast-t17
     returns-2
     read-u8-requires-2
     enum-known-r-2
     enum-known-e-2
     returns-3
-    cast-t24
-    cast-t25
-    mul-t26
-    add-t27
+    cast-t22
+    cast-t23
+    mul-t24
+    add-t25
     returns-4
-    read-u8-requires-3
-    enum-known-r-3
+    last-byte-requires
+    enum-known-c
+    cast-t30
+    cast-t32
+    cast-t33
+    mul-t34
+    add-t35
+    mul-t36
+    add-t37
     enum-known-e-3
     returns-5
-    returns-6
-    cast-t33
-    cast-t35
-    cast-t36
-    mul-t37
-    add-t38
-    mul-t39
-    add-t40
-    returns-7)
+    returns-6)
