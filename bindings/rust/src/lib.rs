@@ -35,6 +35,8 @@
 //! - [`Error`] has the errors that this section can give. `UnexpectedEof` carries a place in the section, not an address. Two are
 //!   added: `SectionTooLong` for more than 2,147,483,647 bytes, and `DoesNotFit`, which no value of these types gives.
 //!   [`Error::number`], [`Error::value`] and [`Error::name`] are added.
+//! - LEB128 numbers may be padded to any length. gimli refuses one whose tenth byte, or third where it has 16 bits, has the continuation
+//!   bit.
 //! - Added are [`DebugNames::query`], the search in all indexes of a section, and [`NameIndex::check_table`], which says whether a
 //!   lookup by hash can miss a name.
 //!

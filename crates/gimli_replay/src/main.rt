@@ -1,5 +1,6 @@
 // gimli's own answers, replayed: standard input has cases, each a call and the bytes that it reads, and the file stdout beside
-// src/ has what gimli 0.34.0 answered (tests/gimli/README.md says how they were made). A line for each case.
+// src/ has what gimli 0.34.0 answered, or, where a LEB128 number is longer than gimli allows, what section 7.6 says (tests/gimli/README.md says
+// how they were made). A line for each case.
 //
 // A case, all numbers little-endian: the call (1 byte), the byte order (1 byte, 0 little), the place, the part's end, an argument
 // and the section's length (2 bytes each), and the section's bytes.

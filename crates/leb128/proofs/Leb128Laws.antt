@@ -19,10 +19,10 @@ use Rattle.reader.proofs.OutcomeLaws.{then-answered, demanded, passed, same-ans
 use Rattle.reader.proofs.PartLaws.{left-is-length, slice-first, slice-none}
 use Rattle.reader.proofs.NumberLaws.{byte-read, byte-missing}
 
-pub powers-above : (bits : ℕ) → 1 ≤ 2 ^ bits
+powers-above : (bits : ℕ) → 1 ≤ 2 ^ bits
 powers-above bits = one-le-pow bits 2 (omega arith)
 
--- nothing is below every width
+-- 0 is below every width
 pub width-zero : (bits : ℕ) → leb (2 ^ bits) 0 ≡ false
 width-zero bits = lt-leb (2 ^ bits) 0 (powers-above bits)
 

@@ -1,21 +1,19 @@
--- The laws of LEB128 numbers of 64 and of 16 bits. Callers of the readers cite `unsigned-below`, `u16-below`, `unsigned-back`, `u16-back`,
--- `unsigned-one` and `u16-one`, which do not say how many bytes a number may have; the rest serves the readers' proofs.
+-- The laws of LEB128 numbers of 64 and of 16 bits. Callers of the readers cite `unsigned-one` and `u16-one`; the first four are statements of
+-- specs/Sanity.antt, and the rest serves the readers' proofs.
 use Prim.Native.Nat.{ℕ, suc, _+_, _*_, _-_, _^_, _%_, _≤_, _<_}
 use mathlib.Core.Path.{_≡_, refl, ap, _∙_}
-use mathlib.Core.List.{List, _++_}
+use mathlib.Core.List.{List}
 use mathlib.Core.Bool.{Bool, true, false, cond}
 use native.Mathlib.Nat.{mul-le-mul-left, pow-succ', pow-le-pow-right}
 use native.Mathlib.Numerals.{add-one}
 use native.Mathlib.Omega.{arith}
-use lib.ListN.{length}
 use lib.Dec.{leb, ltb}
 use borrow.Author.Tests.{lt-ltb, ltb-true}
 use Rattle.reader.specs.Outcome.{Outcome, answered, refused, _>>=_}
 use Rattle.reader.specs.Numbers.{Read, readByte}
 use Rattle.leb128.specs.Leb128.{unsignedLimit, u16Limit, leb128, pastPadding}
-use Rattle.leb128.specs.Sanity.{UnsignedReadsBack, U16ReadsBack, UnsignedBelow, U16Below, Writes}
+use Rattle.leb128.specs.Sanity.{UnsignedReadsBack, U16ReadsBack, UnsignedBelow, U16Below}
 use Rattle.reader.proofs.OutcomeLaws.{bind-same, bind-assoc}
-use Rattle.reader.proofs.PartLaws.{slice-after}
 use Rattle.leb128.proofs.Leb128Laws.{prefixed, width-wide, leb128Step, leb128-step, leb128-below, leb128-back}
 
 pub unsigned-below : UnsignedBelow
@@ -29,12 +27,6 @@ unsigned-back = leb128-back unsignedLimit
 
 pub u16-back : U16ReadsBack
 u16-back = leb128-back u16Limit
-
--- in particular where it stands between other bytes
-pub unsigned-written : (v : ℕ) (bs before after : List ℕ) → Writes v bs → v < 2 ^ 64
-    → leb128 unsignedLimit (before ++ (bs ++ after)) (length before) (length (before ++ (bs ++ after))) ≡ answered (record { value = v; next = length before + length bs })
-unsigned-written v bs before after written h =
-    unsigned-back v bs (before ++ (bs ++ after)) after (length before) (length (before ++ (bs ++ after))) written h (slice-after before (bs ++ after))
 
 -- A number, a byte at a time: what the readers of this crate cite. Where all seven bits of a byte count, a byte below 128 ends the number.
 pub byte-before : (bits : ℕ) (s : List ℕ) (at end : ℕ) → 7 ≤ bits → leb128 bits s at end ≡ (do

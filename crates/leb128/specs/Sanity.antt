@@ -80,8 +80,8 @@ byteByByte bits i value (b ∷ bs) at =
 abbrev pub ByteByByte : Type 0
 ByteByByte = (bits : ℕ) (s : List ℕ) (at end : ℕ) → leb128 bits s at end ≡ byteByByte bits 0 0 (slice at end s) at
 
--- gimli's rule: the byte at the position `last`, counted from 0, if there is one, must be at most `top`, else 7. That is below 128, so that no
--- number runs on past it.
+-- gimli's rule: the byte at the position `last`, counted from 0, if there is one, must be at most `top`, else 7. As `top` is below
+-- 128, no number runs on past it.
 unfoldable pub gimliOfBytes : ℕ → ℕ → List ℕ → ℕ → Outcome Read
 gimliOfBytes last top bs at = do
   refuseIf (ltb top (getD bs last 0)) 7 0

@@ -17,8 +17,8 @@ pub mod read {
     use reader::U64Read;
     use reader::read_u8;
 
-    // The place past the bytes that pad a number beyond its width, however many they are: each adds only zero bits, and the last is the
-    // first below 128.
+    // The place past the bytes that pad a number beyond its width, however many they are; the last is the first below 128. A set bit in one of
+    // them is 7, and a missing byte is 1 at its place.
     fn skip_padding(s: &[u8], at: usize, end: usize) -> Skipped
         ensures { λ r. ⌜ skipOutcome r ≡ pastPadding (now (s .entry)) at end ⌝ }
     {

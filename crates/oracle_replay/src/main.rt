@@ -1,5 +1,6 @@
 // gimli's own answers for .debug_names, replayed: standard input has sections, and the file stdout beside src/ has what gimli 0.34.0
-// answered to every call on each (tools/oracle/README.md says how they were made, and has the form of the lines).
+// answered to every call on each, where a LEB128 number is longer than gimli allows with section 7.6's reading (tools/oracle/README.md says how
+// they were made, and has the form of the lines).
 //
 // The input, all numbers little-endian: how many sections there are (2 bytes), and for each the byte order (1 byte, 0 little), the
 // lengths of .debug_names and .debug_str (2 bytes each, at most 4,096), and the bytes of the two. There is more of it than one

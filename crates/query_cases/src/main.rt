@@ -1,6 +1,6 @@
-// Document 01's cases for the section query ("The section query"), a named case on each line. A case names the section and what is changed
-// in it, the hash and the name that are asked for, and how many records are lent. The file stdout beside src/ has what document 01 says,
-// worked out by hand.
+// Document 01's cases for the section query ("The section query"), and document 02's for padded numbers, a named case on each line. A case names
+// the section and what is changed in it, the hash and the name that are asked for, and how many records are lent. The file stdout beside
+// src/ has what the documents say, worked out by hand.
 mod ask; // a query and its line
 mod sections; // bytes
 
@@ -64,7 +64,7 @@ fn on_a(title: &[u8], second: u8, hash: u32, name: &[u8], room: usize) {
     ask(title, RunTimeEndian::Little, &a, &strings, hash, name, room);
 }
 
-// Case A with every number padded: as it is, since the byte at 36 is 0; with a bit in the eleventh and in the twelfth byte of the second code,
+// Case A with every number padded: unchanged, with the 0 at 36 that stands there; with a bit in the eleventh and in the twelfth byte of the second code,
 // at 171 and 172; with one in the code 0 behind it, which ends at 189; with the pool's last byte, at 216, continued, so that the next byte is
 // missing, and with a bit in it besides; and with a bit in the tag, at 99, and the table's last byte, at 132, continued.
 fn padded() {

@@ -1,5 +1,5 @@
-// Document 01's cases for bytes, numbers, refusals and strings that are not marked P, a named case on each line. The file stdout
-// beside src/ has what document 01 says, worked out by hand.
+// Document 01's cases for bytes, numbers, refusals and strings that are not marked P, and document 02's for padded numbers, a named case on
+// each line. The file stdout beside src/ has what the documents say, worked out by hand.
 use leb128::read;
 use reader::DebugStrOffset;
 use reader::Error;

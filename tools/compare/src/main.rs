@@ -37,6 +37,7 @@ use std::process::exit;
 use arguments::Arguments;
 use desk::Desk;
 use gimli::case::Case;
+use gimli::check;
 use gimli::lent::Memory;
 use gimli::random::Random;
 use name::Name;
@@ -87,4 +88,7 @@ fn compare(name: Name, case: &Case, random: Random, tally: &mut Tally) {
     query::queries(&mut desk);
     desk.nothing_changed();
     desk.tally.sections += 1;
+    if check::entries_beyond_gimli(case) > 0 {
+        desk.tally.other("entries behind numbers longer than gimli's");
+    }
 }

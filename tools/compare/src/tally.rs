@@ -57,7 +57,7 @@ calls! {
 }
 
 /// What else a long run must meet.
-pub const ELSE: [&str; 13] = [
+pub const ELSE: [&str; 14] = [
     "query: total 0",
     "query: total within the records lent",
     "query: total above the records lent",
@@ -71,6 +71,7 @@ pub const ELSE: [&str; 13] = [
     "record: a DIE offset",
     "a step after an end gives a name",
     "a table that was never read whole",
+    "entries behind numbers longer than gimli's",
 ];
 
 /// The refusals; 13 is for what is too long.

@@ -117,6 +117,33 @@ pub fn padded(case: &Case, padded: &Case) -> (usize, usize) {
     (lines.len() - records, records)
 }
 
+/// The entries of a section and of its padded form have the same parents. It gives how many of these are entries.
+pub fn padded_parents(case: &Case, padded: &Case) -> usize {
+    let (own, others) = (parents(case), parents(padded));
+    assert!(own == others, "the parents in a padded section are others");
+    own.iter().filter(|parent| parent.starts_with("entry")).count()
+}
+
+/// The parent of each entry of a valid section's names: the tag and the DIE offset of its entry, no parent, or not known.
+fn parents(case: &Case) -> Vec<String> {
+    let memory = Memory::of(case);
+    let mut parents = Vec::new();
+    for header in DebugNames::from(memory.lend().names).headers() {
+        let index = header.and_then(|header| header.index()).unwrap();
+        for entry in index.names().flat_map(|name| index.name_entries(name).unwrap()) {
+            parents.push(match entry.and_then(|entry| entry.parent()).unwrap() {
+                Some(Some(offset)) => {
+                    let parent = index.name_entry(offset).unwrap();
+                    format!("entry {:?} {:?}", parent.tag, parent.die_offset())
+                }
+                Some(None) => "none".to_string(),
+                None => "-".to_string(),
+            });
+        }
+    }
+    parents
+}
+
 /// The lines of queries and of their records, without the places that a padding moves: those of a record's index and entry, and that of
 /// a refusal 1.
 fn queries_without_places(case: &Case) -> Vec<String> {
@@ -158,10 +185,11 @@ fn readable(section: impl Reader) -> usize {
     count
 }
 
-/// The sections with each padding have enough entries that gimli's own reader does not read; and those with damages in padded numbers,
-/// whose answers these are, have enough of the refusals that such damages lead to.
-pub fn enough_padded(entries: &[usize], damaged: &Answers) {
+/// The sections with each padding have enough entries that gimli's own reader does not read; those of tests/real have parents; and those with
+/// damages in padded numbers, whose answers these are, have enough of the refusals that such damages lead to.
+pub fn enough_padded(entries: &[usize], parents: usize, damaged: &Answers) {
     assert!(entries.iter().all(|count| *count >= TIMES), "too few entries of padded sections: {entries:?}");
+    assert!(parents > 0, "no parents in the padded sections of tests/real");
     for (call, number, count) in padded_refusals(damaged) {
         assert!(count >= TIMES, "{call} is refused {number} {count} times in padded sections");
     }

@@ -516,16 +516,18 @@ fn bit_beyond(random: &mut Random, numbers: &mut [Number]) -> Option<Cut> {
     None
 }
 
-/// Pads a number, and cuts behind as many of its bytes as hold all its bits, behind any number of them, or behind all.
+/// Pads a number, and cuts behind as many of its bytes as hold all its bits, behind any of them but the last, or behind all where another
+/// number follows.
 fn cut_in_number(random: &mut Random, numbers: &mut [Number]) -> Option<Cut> {
     let which = some_number(random, numbers)?;
+    let last = which + 1 == numbers.len();
     let number = &mut numbers[which];
     let enough = number.enough();
     number.pad(random.between(enough + 1, 20));
     let bytes = match random.below(4) {
         0 => enough,
-        1 => number.size(),
-        _ => random.between(1, number.size()),
+        1 if !last => number.size(),
+        _ => random.between(1, number.size() - 1),
     };
     Some(Cut { which, bytes })
 }

@@ -50,6 +50,8 @@ struct Padded {
     /// How many queries and records are the same as in the section before the padding: in these, and in those of tests/real.
     same: (usize, usize),
     same_real: (usize, usize),
+    /// How many parents of entries in those of tests/real are the same entries.
+    parents: usize,
     /// The answers to those with a damage.
     damaged: Answers,
 }
@@ -115,6 +117,7 @@ impl Made {
     fn add_padded_real(&mut self) {
         for (case, padded) in padded::real_cases() {
             add(&mut self.padded.same_real, check::padded(&case, &padded));
+            self.padded.parents += check::padded_parents(&case, &padded);
             self.cases.push(padded);
         }
     }
@@ -161,7 +164,7 @@ fn main() {
     answers.totals(made.cases.len());
     report(&made, &sections, &answers);
     check::enough(made.cases.len(), made.otherwise, &answers);
-    check::enough_padded(&made.padded.entries, &made.padded.damaged);
+    check::enough_padded(&made.padded.entries, made.padded.parents, &made.padded.damaged);
 
     let folder = Path::new(folder);
     std::fs::create_dir_all(folder).expect("cannot make the folder");
@@ -190,10 +193,10 @@ fn report(made: &Made, sections: &[u8], answers: &Answers) {
 
 /// What was met in padded sections.
 fn report_padded(padded: &Padded) {
-    let Padded { valid, entries: [tables, pools], same, same_real, damaged } = padded;
+    let Padded { valid, entries: [tables, pools], same, same_real, parents, damaged } = padded;
     println!("{valid} padded, with {tables} entries of padded tables and {pools} of padded pools that gimli's own reader does not read");
     println!("{} queries and {} records on them as before the padding", same.0, same.1);
-    println!("{} queries and {} records on those of tests/real as before the padding", same_real.0, same_real.1);
+    println!("{} queries, {} records and {parents} parents on those of tests/real as before the padding", same_real.0, same_real.1);
     for (call, number, count) in check::padded_refusals(damaged) {
         println!("{call} refused {number} {count} times where padded numbers are damaged");
     }
