@@ -26,12 +26,14 @@ powers-above bits = one-le-pow bits 2 (omega arith)
 pub width-zero : (bits : ℕ) → leb (2 ^ bits) 0 ≡ false
 width-zero bits = lt-leb (2 ^ bits) 0 (powers-above bits)
 
--- A width takes seven bits of the first byte; what follows it has the bits that are left, and none where there were fewer than seven.
+-- and so are the low seven bits of a byte, where the width has as many
 pub width-wide : (bits x : ℕ) → 7 ≤ bits → x < 128 → leb (2 ^ bits) x ≡ false
 width-wide bits x h low =
     let most : 2 ^ 7 ≤ 2 ^ bits = pow-le-pow-right (omega arith) h in
     lt-leb (2 ^ bits) x (omega (arith, most))
 
+-- A number goes beyond a width exactly if its first byte does, or what follows goes beyond the bits that are left: seven fewer, and none where
+-- there were fewer than seven.
 pub width-step : (bits x rest : ℕ) → x < 128 → leb (2 ^ bits) (x + 128 * rest) ≡ (leb (2 ^ bits) x || leb (2 ^ (bits - 7)) rest)
 width-step bits x rest low = go (leb 7 bits) refl
   where
@@ -82,6 +84,7 @@ finished-prefixed false false b r = refl
 abbrev pub withByte : ℕ → Read → Outcome Read → Outcome Read
 withByte bits b rest = cond (leb (2 ^ bits) (b .value % 128)) (refused 7 0) (cond (ltb (b .value) 128) (answered b) (rest >>= λ r. answered (prefixed (b .value) r)))
 
+-- one byte more in front of a number, by the two tests on it
 pub number-byte : (bits b : ℕ) (bs : List ℕ) (at : ℕ) (t u : Bool) → leb (2 ^ bits) (b % 128) ≡ t → ltb b 128 ≡ u
     → numberOfBytes bits (numberBytes (b ∷ bs)) at ≡ withByte bits (record { value = b; next = at + 1 }) (numberOfBytes (bits - 7) (numberBytes bs) (at + 1))
 unfolding numberOfBytes numberBytes complete base128
