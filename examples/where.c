@@ -168,12 +168,12 @@ static void print_records(const char *name, const struct records *found) {
 
 /* ---- (c) The same by hand, call by call */
 
-/* The unit of an entry: the compile unit that it names, else the type unit that it names, else the only compile unit of its index, else
+/* The unit of an entry: the type unit that it names, else the compile unit that it names, else the only compile unit of its index, else
  * none. What comes later in this order is not asked for, so that its refusal does not matter. */
 static debug_names_answer unit_of(const struct search *s, const struct opened *in, const debug_names_entry *entry) {
-    debug_names_answer unit = entry->facts.compile_unit;
+    debug_names_answer unit = entry->facts.type_unit;
     must_be_answered(unit.status, unit.value);
-    if (unit.kind == DEBUG_NAMES_NO_UNIT) unit = entry->facts.type_unit;
+    if (unit.kind == DEBUG_NAMES_NO_UNIT) unit = entry->facts.compile_unit;
     must_be_answered(unit.status, unit.value);
     if (unit.kind == DEBUG_NAMES_NO_UNIT)
         unit = debug_names_default_compile_unit(DEBUG_NAMES_LITTLE_ENDIAN, s->names.data, s->names.len, in->index);

@@ -129,13 +129,13 @@ void print_records(std::string_view name, const std::vector<dn::record>& found) 
 
 // ---- (c) The same by hand, call by call
 
-// The unit of an entry: the compile unit that it names, else the type unit that it names, else the only compile unit of its index, else
+// The unit of an entry: the type unit that it names, else the compile unit that it names, else the only compile unit of its index, else
 // none. What comes later in this order is not asked for, so that its refusal does not matter.
 dn::unit unit_of(const dn::index& index, const dn::entry& entry) {
-    const dn::unit compile = answered(entry.compile_unit());
-    if (compile.kind != dn::unit_kind::none) return compile;
     const dn::unit type = answered(entry.type_unit());
     if (type.kind != dn::unit_kind::none) return type;
+    const dn::unit compile = answered(entry.compile_unit());
+    if (compile.kind != dn::unit_kind::none) return compile;
     return answered(index.default_compile_unit());
 }
 

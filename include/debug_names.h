@@ -198,8 +198,10 @@ typedef struct {
     uint32_t tag;
 } debug_names_entry;
 
-/* A record of the section query: where an entry stands and what it describes. `unit_kind` is of debug_names_unit_kind. Where
- * `has_die_offset` is 0, `die_offset` is 0. */
+/* A record of the section query: where an entry stands and what it describes. Its unit is that of the entry's type_unit attribute, else
+ * that of its compile_unit attribute, else the only compile unit of the index, else none; `unit_kind` is of debug_names_unit_kind. An
+ * entry of a split build may have both attributes: its DIE belongs to the type unit, and its compile unit, which tells which split file
+ * to load, is a fact of debug_names_name_entry for the same handle. Where `has_die_offset` is 0, `die_offset` is 0. */
 typedef struct {
     uint64_t unit_value;
     size_t die_offset;     /* from the start of the unit */

@@ -111,16 +111,16 @@ fn record<'a>(index: &Index<'a>, place: usize, name: NameTableIndex, entry: &Ent
     })
 }
 
-/// Kind and value of an entry's unit: of its attribute compile_unit, else of type_unit, else the default compile unit.
+/// Kind and value of an entry's unit: of its attribute type_unit, else of compile_unit, else the default compile unit.
 #[inline]
 fn unit<'a>(index: &Index<'a>, entry: &Entry<'a>) -> Result<(u8, u64)> {
-    if let Some(unit) = entry.compile_unit(index)? {
-        return Ok((1, unit.0 as u64));
-    }
     match entry.type_unit(index)? {
         Some(NameTypeUnit::Local(unit)) => return Ok((2, unit.0 as u64)),
         Some(NameTypeUnit::Foreign(signature)) => return Ok((3, signature.0)),
         None => {}
+    }
+    if let Some(unit) = entry.compile_unit(index)? {
+        return Ok((1, unit.0 as u64));
     }
     let default = index.default_compile_unit()?;
     Ok(default.map_or((0, 0), |unit| (1, unit.0 as u64)))

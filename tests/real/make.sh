@@ -3,8 +3,8 @@
 #
 #     sh make.sh FOLDER
 #
-# FOLDER is for the object files and programs. These packages of Debian 12 are needed: clang-14 (14.0.6), clang-19, lld-19 and llvm-19
-# (19.1.7), g++ (12.2.0), gdb (13.1) and binutils. With other versions other bytes may come out.
+# FOLDER is for the object files and programs. These packages of Debian 12 are needed: clang-14 (14.0.6), clang-19, lld-19, llvm-19 and
+# bolt-19 (19.1.7), g++ (12.2.0), gdb (13.1) and binutils. With other versions other bytes may come out.
 set -eu
 here=$(cd "$(dirname "$0")" && pwd)
 work=${1:?a folder for what is made on the way}
@@ -22,7 +22,7 @@ compile() {
     $compiler --target="$target" $flags -gpubnames -fdebug-compilation-dir=. "$@" -c "$source" -o "${source%.*}.o"
 }
 
-# three COMPILER TARGET [FLAG] : the object files of the three units in C++.
+# three COMPILER TARGET [FLAGS] : the object files of the three units in C++.
 three() {
     for unit in first second third; do
         compile "$1" "$2" $unit.cpp ${3-}
@@ -94,3 +94,17 @@ take dwarfutil19
 g++ $flags -gno-record-gcc-switches -ffile-prefix-map="$PWD"=. -nostdlib -static -no-pie first.cpp second.cpp third.cpp -o gdb13
 gdb-add-index -dwarf-5 gdb13
 take gdb13
+
+# bolt reads the program, with its relocations, and the type units in the .dwo files, and writes one index of all units anew.
+bolt="llvm-bolt-19 --no-threads --update-debug-sections"
+
+three clang-19 $x86 "-gsplit-dwarf -fdebug-types-section"
+$link --emit-relocs first.o second.o third.o -o split
+$bolt split -o bolt19-split
+take bolt19-split
+
+# The second unit is not split: its type units are local.
+compile clang-19 $x86 second.cpp -fdebug-types-section
+$link --emit-relocs first.o second.o third.o -o mixed
+$bolt mixed -o bolt19-mixed
+take bolt19-mixed

@@ -172,16 +172,16 @@ fn find_entries(opened: &Opened, name: NameTableIndex, found: &mut Vec<Found>) -
     Ok(())
 }
 
-/// The unit of an entry: the compile unit that it names, else the type unit that it names, else the only compile unit of its index, else
+/// The unit of an entry: the type unit that it names, else the compile unit that it names, else the only compile unit of its index, else
 /// none. What comes later in this order is not asked for, so that its refusal does not matter.
 fn unit_of(index: &NameIndex, entry: &NameEntry) -> Result<Option<RecordUnit>> {
-    if let Some(unit) = entry.compile_unit(index)? {
-        return Ok(Some(RecordUnit::Compile(unit)));
-    }
     match entry.type_unit(index)? {
         Some(NameTypeUnit::Local(unit)) => return Ok(Some(RecordUnit::LocalType(unit))),
         Some(NameTypeUnit::Foreign(signature)) => return Ok(Some(RecordUnit::ForeignType(signature))),
         None => {}
+    }
+    if let Some(unit) = entry.compile_unit(index)? {
+        return Ok(Some(RecordUnit::Compile(unit)));
     }
     Ok(index.default_compile_unit()?.map(RecordUnit::Compile))
 }

@@ -8,7 +8,11 @@ use crate::names::{NameEntryOffset, NameTableIndex};
 /// fields, and the methods give them under their names.
 pub use crate::ffi::Record;
 
-/// The unit that the DIE of a record belongs to.
+/// The unit that the DIE of a record belongs to: the type unit that its entry names, else the compilation unit that it names, else the only
+/// one of its index.
+///
+/// An entry of a split build may name both a type unit and a compilation unit. The second tells which split file to load:
+/// [`NameEntry::compile_unit`](crate::NameEntry::compile_unit) of [`NameIndex::name_entry`](crate::NameIndex::name_entry) gives it.
 #[derive(Debug, Clone, Copy, PartialEq, Eq)]
 pub enum RecordUnit {
     /// A compilation unit: that of the entry's attribute, or the only one of its index.

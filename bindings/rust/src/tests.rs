@@ -1,4 +1,4 @@
-//! Document 01's case A. The expected values are worked out by hand from that document.
+//! Document 01's case A, whose expected values are worked out by hand from that document, and a section of llvm-bolt.
 
 use crate::calls::{self, Outcome, Section};
 use crate::ffi;
@@ -298,6 +298,23 @@ fn refused_query() {
     let answer = DebugNames::new(&bytes, LittleEndian).query(&strings(), 7, b"de", &mut records);
     assert_eq!(answer, eof(0));
     assert_eq!(records, [untouched; 2]);
+}
+
+/// A section of llvm-bolt, of a split build: "own" is a type of two units, under one signature. The records show the type unit, and the entries
+/// tell which compilation unit leads to the split file. The expected values are those of llvm-dwarfdump.
+#[test]
+fn both_units() {
+    let section = include_bytes!("../../../tests/real/bolt19-split.names");
+    let debug_str = DebugStr::new(include_bytes!("../../../tests/real/bolt19-split.str"), LittleEndian);
+    let mut records = [Record::default(); 3];
+    assert_eq!(DebugNames::new(section, LittleEndian).query(&debug_str, 0x0b88_9ad9, b"own", &mut records), Ok(2));
+    let index = index(section);
+    for (record, unit) in records.iter().zip([0, 0x29]) {
+        assert_eq!(record.unit(), Some(RecordUnit::ForeignType(DebugTypeSignature(0x9092_d017_bbd8_4c2b))));
+        assert_eq!((record.tag(), record.die_offset()), (DwTag(0x13), Some(UnitOffset(0x21))));
+        assert_eq!(index.name_entry(record.entry()).unwrap().compile_unit(&index), Ok(Some(DebugInfoOffset(unit))));
+    }
+    assert_eq!(records[2], Record::default());
 }
 
 #[test]

@@ -7,6 +7,8 @@
 -- without refusal. For every section whose indexes all open and are complete or have no hash table, a section query not refused has as its
 -- total the number of all entries in the series of all matching names, each once for each name. It writes the first of them that its records
 -- hold, in the order of index, name and series, and nothing else.
+--
+-- Completeness of the query's list concerns records with document 02's choice of the unit (No. 5): `expected` has them.
 use Prim.Native.Nat.{ℕ}
 use mathlib.Core.Path.{_≡_}
 use mathlib.Core.Bool.{true}

@@ -1,5 +1,8 @@
 -- What a query has to find: document 01, "Demand 3 does not use this search". Of a hash table only the hash that is stored for a name is
 -- looked at. `s` is .debug_names and `strs` is .debug_str; `text` has the bytes of the name that is asked for.
+--
+-- What is shown of an entry is its record (`recordOfEntry`), with the unit that `entryUnit` of `records` chooses: where an entry has both a
+-- type_unit and a compile_unit attribute, the type unit (document 02, No. 5).
 use Prim.Native.Nat.{ℕ}
 use mathlib.Core.Bool.{Bool, true, false, cond}
 use mathlib.Core.List.{List, map, flatMap}

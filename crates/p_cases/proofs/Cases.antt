@@ -22,7 +22,7 @@ use Rattle.entries.specs.Series.{seriesStart, seriesEntry, entriesFrom, series}
 use Rattle.hashes.specs.Table.{nthOf, storedStart, storedHash, bucketOf, namesFrom, runFrom, fromStart, run, storing, namesOfHash}
 use Rattle.hashes.specs.Lookups.{findByBucket, firstName, findByHash}
 use Rattle.tables.specs.Check.{startAbove, anyAbove, isMissed, missedNames, verdict, tableCheck}
-use Rattle.records.specs.Units.{compileShown, typeShown, namedUnit, entryUnit}
+use Rattle.records.specs.Units.{typeShown, compileShown, defaultShown, entryUnit}
 use Rattle.records.specs.Records.{shown, entryRecord}
 use Rattle.index_query.specs.Candidates.{candidates}
 use Rattle.index_query.specs.Matching.{sameBytes, textIs, nameMatches, matching}
@@ -35,5 +35,5 @@ use Rattle.p_cases.specs.CaseA.{caseA, stringsA, indexA, secondStart}
 use Rattle.p_cases.specs.Cases.{PCases}
 
 pub p-cases : PCases
-unfolding PCases caseA secondStart indexA numbersFrom filterb takeWhile memberb nthOf storedStart storedHash bucketOf namesFrom runFrom fromStart run storing namesOfHash startAbove anyAbove isMissed missedNames verdict tableCheck numberAt nameEntryHanded entry nameEntry values kept noAttribute first formValue asFlag asUnsigned asOffset readByte find table listing declaration withAttributes head attributes attributesIn pair leb128 numberOfBytes numberBytes complete base128 fitted parts place placesFrom sizes wordBytes hashBytes longest readNumber skipped spelled digits stringsA sectionQuery queried written sectionRecords headersLeft headerRecords headersFrom headerAt header headerCut headerBody counts augmentation initialLength cut nameIndex indexOf cutParts passedOver parsed ending indexRecords candidates findByHash findByBucket firstName matching nameMatches textIs sameBytes nameString nameStringOffset nthWord getStr zeroFrom beforeZero allSeries seriesRecords recordOfEntry shownBy followedBy itemsOf counted series seriesStart seriesEntry entriesFrom facts entryRecord shown entryUnit namedUnit compileShown typeShown compileUnitOf typeUnitOf unitNumber unitNumberIn numberedUnit numberedTypeUnit compileUnit unitIn defaultCompileUnit dieOffset dieOffsetIn
+unfolding PCases caseA secondStart indexA numbersFrom filterb takeWhile memberb nthOf storedStart storedHash bucketOf namesFrom runFrom fromStart run storing namesOfHash startAbove anyAbove isMissed missedNames verdict tableCheck numberAt nameEntryHanded entry nameEntry values kept noAttribute first formValue asFlag asUnsigned asOffset readByte find table listing declaration withAttributes head attributes attributesIn pair leb128 numberOfBytes numberBytes complete base128 fitted parts place placesFrom sizes wordBytes hashBytes longest readNumber skipped spelled digits stringsA sectionQuery queried written sectionRecords headersLeft headerRecords headersFrom headerAt header headerCut headerBody counts augmentation initialLength cut nameIndex indexOf cutParts passedOver parsed ending indexRecords candidates findByHash findByBucket firstName matching nameMatches textIs sameBytes nameString nameStringOffset nthWord getStr zeroFrom beforeZero allSeries seriesRecords recordOfEntry shownBy followedBy itemsOf counted series seriesStart seriesEntry entriesFrom facts entryRecord shown entryUnit typeShown compileShown defaultShown compileUnitOf typeUnitOf unitNumber unitNumberIn numberedUnit numberedTypeUnit compileUnit unitIn defaultCompileUnit dieOffset dieOffsetIn
 p-cases = refl

@@ -26,7 +26,7 @@ use Rattle.entries.specs.Series.{seriesStart, seriesEntry, entriesFrom, series,
 use Rattle.hashes.specs.Table.{nthOf, storedStart, storedHash, bucketOf, namesFrom, runFrom, fromStart, run, storing, namesOfHash}
 use Rattle.hashes.specs.Lookups.{bucketCursor, hashCursor, findByBucket, firstName, findByHash}
 use Rattle.tables.specs.Check.{checkOutcome, startAbove, anyAbove, isMissed, missedNames, verdict, tableCheck}
-use Rattle.records.specs.Units.{compileShown, typeShown, namedUnit, entryUnit}
+use Rattle.records.specs.Units.{typeShown, compileShown, defaultShown, entryUnit}
 use Rattle.records.specs.Records.{shown, entryRecord}
 use Rattle.index_query.specs.Candidates.{candidates}
 use Rattle.index_query.specs.Matching.{sameBytes, textIs, nameMatches, matching}
@@ -73,26 +73,26 @@ pub all-listed-in-a : AllListedInA
 all-listed-in-a = demand3 .completeness RunTimeEndian.Little caseA indexA (lent-a .0) (lent-a .1) .0 says-complete
 
 pub query-of-a : queryOfA ≡ foundInA
-unfolding caseA stringsA headerA indexA sectionQuery queried written sectionRecords headersLeft headerRecords headersFrom headerAt header headerCut headerBody counts augmentation initialLength readNumber skipped cut spelled digits nameIndex indexOf cutParts passedOver parts place placesFrom sizes wordBytes hashBytes longest parsed ending table listing declaration withAttributes head attributes attributesIn pair leb128 numberOfBytes numberBytes complete base128 indexRecords candidates findByHash findByBucket firstName namesOfHash run runFrom fromStart storing storedStart storedHash nthOf bucketOf namesFrom numbersFrom filterb takeWhile memberb numberAt matching nameMatches textIs sameBytes nameString nameStringOffset nthWord getStr zeroFrom beforeZero allSeries seriesRecords recordOfEntry shownBy followedBy itemsOf counted series seriesStart seriesEntry entriesFrom entry values kept noAttribute first facts formValue asFlag asUnsigned asOffset readByte find fitted entryRecord shown entryUnit namedUnit compileShown typeShown compileUnitOf typeUnitOf unitNumber unitNumberIn numberedUnit numberedTypeUnit compileUnit unitIn defaultCompileUnit dieOffset dieOffsetIn
+unfolding caseA stringsA headerA indexA sectionQuery queried written sectionRecords headersLeft headerRecords headersFrom headerAt header headerCut headerBody counts augmentation initialLength readNumber skipped cut spelled digits nameIndex indexOf cutParts passedOver parts place placesFrom sizes wordBytes hashBytes longest parsed ending table listing declaration withAttributes head attributes attributesIn pair leb128 numberOfBytes numberBytes complete base128 indexRecords candidates findByHash findByBucket firstName namesOfHash run runFrom fromStart storing storedStart storedHash nthOf bucketOf namesFrom numbersFrom filterb takeWhile memberb numberAt matching nameMatches textIs sameBytes nameString nameStringOffset nthWord getStr zeroFrom beforeZero allSeries seriesRecords recordOfEntry shownBy followedBy itemsOf counted series seriesStart seriesEntry entriesFrom entry values kept noAttribute first facts formValue asFlag asUnsigned asOffset readByte find fitted entryRecord shown entryUnit typeShown compileShown defaultShown compileUnitOf typeUnitOf unitNumber unitNumberIn numberedUnit numberedTypeUnit compileUnit unitIn defaultCompileUnit dieOffset dieOffsetIn
 query-of-a = refl
 
 pub all-open-a : AllOpenA
-unfolding caseA stringsA headerA indexA sectionQuery queried written sectionRecords headersLeft headerRecords headersFrom headerAt header headerCut headerBody counts augmentation initialLength readNumber skipped cut spelled digits nameIndex indexOf cutParts passedOver parts place placesFrom sizes wordBytes hashBytes longest parsed ending table listing declaration withAttributes head attributes attributesIn pair leb128 numberOfBytes numberBytes complete base128 indexRecords candidates findByHash findByBucket firstName namesOfHash run runFrom fromStart storing storedStart storedHash nthOf bucketOf namesFrom numbersFrom filterb takeWhile memberb numberAt matching nameMatches textIs sameBytes nameString nameStringOffset nthWord getStr zeroFrom beforeZero allSeries seriesRecords recordOfEntry shownBy followedBy itemsOf counted series seriesStart seriesEntry entriesFrom entry values kept noAttribute first facts formValue asFlag asUnsigned asOffset readByte find fitted entryRecord shown entryUnit namedUnit compileShown typeShown compileUnitOf typeUnitOf unitNumber unitNumberIn numberedUnit numberedTypeUnit compileUnit unitIn defaultCompileUnit dieOffset dieOffsetIn headerStep afterHeader firstHeader hasEnd upToEnd
+unfolding caseA stringsA headerA indexA sectionQuery queried written sectionRecords headersLeft headerRecords headersFrom headerAt header headerCut headerBody counts augmentation initialLength readNumber skipped cut spelled digits nameIndex indexOf cutParts passedOver parts place placesFrom sizes wordBytes hashBytes longest parsed ending table listing declaration withAttributes head attributes attributesIn pair leb128 numberOfBytes numberBytes complete base128 indexRecords candidates findByHash findByBucket firstName namesOfHash run runFrom fromStart storing storedStart storedHash nthOf bucketOf namesFrom numbersFrom filterb takeWhile memberb numberAt matching nameMatches textIs sameBytes nameString nameStringOffset nthWord getStr zeroFrom beforeZero allSeries seriesRecords recordOfEntry shownBy followedBy itemsOf counted series seriesStart seriesEntry entriesFrom entry values kept noAttribute first facts formValue asFlag asUnsigned asOffset readByte find fitted entryRecord shown entryUnit typeShown compileShown defaultShown compileUnitOf typeUnitOf unitNumber unitNumberIn numberedUnit numberedTypeUnit compileUnit unitIn defaultCompileUnit dieOffset dieOffsetIn headerStep afterHeader firstHeader hasEnd upToEnd
 all-open-a = ((HeaderStep.Header headerA (record { at = 109 }) ∷ HeaderStep.End (record { at = 109 }) ∷ [], step-then refl (step-then refl no-steps), refl, refl), and-then refl of-none)
 
 pub complete-a : CompleteA
-unfolding caseA stringsA headerA indexA sectionQuery queried written sectionRecords headersLeft headerRecords headersFrom headerAt header headerCut headerBody counts augmentation initialLength readNumber skipped cut spelled digits nameIndex indexOf cutParts passedOver parts place placesFrom sizes wordBytes hashBytes longest parsed ending table listing declaration withAttributes head attributes attributesIn pair leb128 numberOfBytes numberBytes complete base128 indexRecords candidates findByHash findByBucket firstName namesOfHash run runFrom fromStart storing storedStart storedHash nthOf bucketOf namesFrom numbersFrom filterb takeWhile memberb numberAt matching nameMatches textIs sameBytes nameString nameStringOffset nthWord getStr zeroFrom beforeZero allSeries seriesRecords recordOfEntry shownBy followedBy itemsOf counted series seriesStart seriesEntry entriesFrom entry values kept noAttribute first facts formValue asFlag asUnsigned asOffset readByte find fitted entryRecord shown entryUnit namedUnit compileShown typeShown compileUnitOf typeUnitOf unitNumber unitNumberIn numberedUnit numberedTypeUnit compileUnit unitIn defaultCompileUnit dieOffset dieOffsetIn startAbove anyAbove isMissed missedNames verdict tableCheck
+unfolding caseA stringsA headerA indexA sectionQuery queried written sectionRecords headersLeft headerRecords headersFrom headerAt header headerCut headerBody counts augmentation initialLength readNumber skipped cut spelled digits nameIndex indexOf cutParts passedOver parts place placesFrom sizes wordBytes hashBytes longest parsed ending table listing declaration withAttributes head attributes attributesIn pair leb128 numberOfBytes numberBytes complete base128 indexRecords candidates findByHash findByBucket firstName namesOfHash run runFrom fromStart storing storedStart storedHash nthOf bucketOf namesFrom numbersFrom filterb takeWhile memberb numberAt matching nameMatches textIs sameBytes nameString nameStringOffset nthWord getStr zeroFrom beforeZero allSeries seriesRecords recordOfEntry shownBy followedBy itemsOf counted series seriesStart seriesEntry entriesFrom entry values kept noAttribute first facts formValue asFlag asUnsigned asOffset readByte find fitted entryRecord shown entryUnit typeShown compileShown defaultShown compileUnitOf typeUnitOf unitNumber unitNumberIn numberedUnit numberedTypeUnit compileUnit unitIn defaultCompileUnit dieOffset dieOffsetIn startAbove anyAbove isMissed missedNames verdict tableCheck
 complete-a = and-then (inl refl) of-none
 
 pub found-a : FoundA
 found-a = demand3 .query _ caseA stringsA 7 de (old ∷ old ∷ []) _ 1 (openA ∷ []) all-open-a complete-a (sym query-of-a)
 
 pub query-of-two : queryOfTwo ≡ foundInTwo
-unfolding caseA stringsA headerA indexA sectionQuery queried written sectionRecords headersLeft headerRecords headersFrom headerAt header headerCut headerBody counts augmentation initialLength readNumber skipped cut spelled digits nameIndex indexOf cutParts passedOver parts place placesFrom sizes wordBytes hashBytes longest parsed ending table listing declaration withAttributes head attributes attributesIn pair leb128 numberOfBytes numberBytes complete base128 indexRecords candidates findByHash findByBucket firstName namesOfHash run runFrom fromStart storing storedStart storedHash nthOf bucketOf namesFrom numbersFrom filterb takeWhile memberb numberAt matching nameMatches textIs sameBytes nameString nameStringOffset nthWord getStr zeroFrom beforeZero allSeries seriesRecords recordOfEntry shownBy followedBy itemsOf counted series seriesStart seriesEntry entriesFrom entry values kept noAttribute first facts formValue asFlag asUnsigned asOffset readByte find fitted entryRecord shown entryUnit namedUnit compileShown typeShown compileUnitOf typeUnitOf unitNumber unitNumberIn numberedUnit numberedTypeUnit compileUnit unitIn defaultCompileUnit dieOffset dieOffsetIn twoIndexes secondHeader secondIndex
+unfolding caseA stringsA headerA indexA sectionQuery queried written sectionRecords headersLeft headerRecords headersFrom headerAt header headerCut headerBody counts augmentation initialLength readNumber skipped cut spelled digits nameIndex indexOf cutParts passedOver parts place placesFrom sizes wordBytes hashBytes longest parsed ending table listing declaration withAttributes head attributes attributesIn pair leb128 numberOfBytes numberBytes complete base128 indexRecords candidates findByHash findByBucket firstName namesOfHash run runFrom fromStart storing storedStart storedHash nthOf bucketOf namesFrom numbersFrom filterb takeWhile memberb numberAt matching nameMatches textIs sameBytes nameString nameStringOffset nthWord getStr zeroFrom beforeZero allSeries seriesRecords recordOfEntry shownBy followedBy itemsOf counted series seriesStart seriesEntry entriesFrom entry values kept noAttribute first facts formValue asFlag asUnsigned asOffset readByte find fitted entryRecord shown entryUnit typeShown compileShown defaultShown compileUnitOf typeUnitOf unitNumber unitNumberIn numberedUnit numberedTypeUnit compileUnit unitIn defaultCompileUnit dieOffset dieOffsetIn twoIndexes secondHeader secondIndex
 query-of-two = refl
 
 pub all-open-two : AllOpenTwo
-unfolding caseA stringsA headerA indexA sectionQuery queried written sectionRecords headersLeft headerRecords headersFrom headerAt header headerCut headerBody counts augmentation initialLength readNumber skipped cut spelled digits nameIndex indexOf cutParts passedOver parts place placesFrom sizes wordBytes hashBytes longest parsed ending table listing declaration withAttributes head attributes attributesIn pair leb128 numberOfBytes numberBytes complete base128 indexRecords candidates findByHash findByBucket firstName namesOfHash run runFrom fromStart storing storedStart storedHash nthOf bucketOf namesFrom numbersFrom filterb takeWhile memberb numberAt matching nameMatches textIs sameBytes nameString nameStringOffset nthWord getStr zeroFrom beforeZero allSeries seriesRecords recordOfEntry shownBy followedBy itemsOf counted series seriesStart seriesEntry entriesFrom entry values kept noAttribute first facts formValue asFlag asUnsigned asOffset readByte find fitted entryRecord shown entryUnit namedUnit compileShown typeShown compileUnitOf typeUnitOf unitNumber unitNumberIn numberedUnit numberedTypeUnit compileUnit unitIn defaultCompileUnit dieOffset dieOffsetIn twoIndexes secondHeader secondIndex headerStep afterHeader firstHeader hasEnd upToEnd
+unfolding caseA stringsA headerA indexA sectionQuery queried written sectionRecords headersLeft headerRecords headersFrom headerAt header headerCut headerBody counts augmentation initialLength readNumber skipped cut spelled digits nameIndex indexOf cutParts passedOver parts place placesFrom sizes wordBytes hashBytes longest parsed ending table listing declaration withAttributes head attributes attributesIn pair leb128 numberOfBytes numberBytes complete base128 indexRecords candidates findByHash findByBucket firstName namesOfHash run runFrom fromStart storing storedStart storedHash nthOf bucketOf namesFrom numbersFrom filterb takeWhile memberb numberAt matching nameMatches textIs sameBytes nameString nameStringOffset nthWord getStr zeroFrom beforeZero allSeries seriesRecords recordOfEntry shownBy followedBy itemsOf counted series seriesStart seriesEntry entriesFrom entry values kept noAttribute first facts formValue asFlag asUnsigned asOffset readByte find fitted entryRecord shown entryUnit typeShown compileShown defaultShown compileUnitOf typeUnitOf unitNumber unitNumberIn numberedUnit numberedTypeUnit compileUnit unitIn defaultCompileUnit dieOffset dieOffsetIn twoIndexes secondHeader secondIndex headerStep afterHeader firstHeader hasEnd upToEnd
 all-open-two = (
   (
     HeaderStep.Header headerA (record { at = 109 }) ∷ HeaderStep.Header secondHeader (record { at = 178 }) ∷ HeaderStep.End (record { at = 178 }) ∷ [],
@@ -104,9 +104,9 @@ all-open-two = (
 )
 
 pub complete-two : CompleteTwo
-unfolding caseA stringsA headerA indexA sectionQuery queried written sectionRecords headersLeft headerRecords headersFrom headerAt header headerCut headerBody counts augmentation initialLength readNumber skipped cut spelled digits nameIndex indexOf cutParts passedOver parts place placesFrom sizes wordBytes hashBytes longest parsed ending table listing declaration withAttributes head attributes attributesIn pair leb128 numberOfBytes numberBytes complete base128 indexRecords candidates findByHash findByBucket firstName namesOfHash run runFrom fromStart storing storedStart storedHash nthOf bucketOf namesFrom numbersFrom filterb takeWhile memberb numberAt matching nameMatches textIs sameBytes nameString nameStringOffset nthWord getStr zeroFrom beforeZero allSeries seriesRecords recordOfEntry shownBy followedBy itemsOf counted series seriesStart seriesEntry entriesFrom entry values kept noAttribute first facts formValue asFlag asUnsigned asOffset readByte find fitted entryRecord shown entryUnit namedUnit compileShown typeShown compileUnitOf typeUnitOf unitNumber unitNumberIn numberedUnit numberedTypeUnit compileUnit unitIn defaultCompileUnit dieOffset dieOffsetIn twoIndexes secondHeader secondIndex startAbove anyAbove isMissed missedNames verdict tableCheck
+unfolding caseA stringsA headerA indexA sectionQuery queried written sectionRecords headersLeft headerRecords headersFrom headerAt header headerCut headerBody counts augmentation initialLength readNumber skipped cut spelled digits nameIndex indexOf cutParts passedOver parts place placesFrom sizes wordBytes hashBytes longest parsed ending table listing declaration withAttributes head attributes attributesIn pair leb128 numberOfBytes numberBytes complete base128 indexRecords candidates findByHash findByBucket firstName namesOfHash run runFrom fromStart storing storedStart storedHash nthOf bucketOf namesFrom numbersFrom filterb takeWhile memberb numberAt matching nameMatches textIs sameBytes nameString nameStringOffset nthWord getStr zeroFrom beforeZero allSeries seriesRecords recordOfEntry shownBy followedBy itemsOf counted series seriesStart seriesEntry entriesFrom entry values kept noAttribute first facts formValue asFlag asUnsigned asOffset readByte find fitted entryRecord shown entryUnit typeShown compileShown defaultShown compileUnitOf typeUnitOf unitNumber unitNumberIn numberedUnit numberedTypeUnit compileUnit unitIn defaultCompileUnit dieOffset dieOffsetIn twoIndexes secondHeader secondIndex startAbove anyAbove isMissed missedNames verdict tableCheck
 complete-two = and-then (inl refl) (and-then (inr refl) of-none)
 
 pub expected-two : ExpectedTwo
-unfolding caseA stringsA headerA indexA sectionQuery queried written sectionRecords headersLeft headerRecords headersFrom headerAt header headerCut headerBody counts augmentation initialLength readNumber skipped cut spelled digits nameIndex indexOf cutParts passedOver parts place placesFrom sizes wordBytes hashBytes longest parsed ending table listing declaration withAttributes head attributes attributesIn pair leb128 numberOfBytes numberBytes complete base128 indexRecords candidates findByHash findByBucket firstName namesOfHash run runFrom fromStart storing storedStart storedHash nthOf bucketOf namesFrom numbersFrom filterb takeWhile memberb numberAt matching nameMatches textIs sameBytes nameString nameStringOffset nthWord getStr zeroFrom beforeZero allSeries seriesRecords recordOfEntry shownBy followedBy itemsOf counted series seriesStart seriesEntry entriesFrom entry values kept noAttribute first facts formValue asFlag asUnsigned asOffset readByte find fitted entryRecord shown entryUnit namedUnit compileShown typeShown compileUnitOf typeUnitOf unitNumber unitNumberIn numberedUnit numberedTypeUnit compileUnit unitIn defaultCompileUnit dieOffset dieOffsetIn twoIndexes secondHeader secondIndex expected recordsOfIndex recordsOfName matchingNames nameIsMatch hashMatches stringMatches flatMap
+unfolding caseA stringsA headerA indexA sectionQuery queried written sectionRecords headersLeft headerRecords headersFrom headerAt header headerCut headerBody counts augmentation initialLength readNumber skipped cut spelled digits nameIndex indexOf cutParts passedOver parts place placesFrom sizes wordBytes hashBytes longest parsed ending table listing declaration withAttributes head attributes attributesIn pair leb128 numberOfBytes numberBytes complete base128 indexRecords candidates findByHash findByBucket firstName namesOfHash run runFrom fromStart storing storedStart storedHash nthOf bucketOf namesFrom numbersFrom filterb takeWhile memberb numberAt matching nameMatches textIs sameBytes nameString nameStringOffset nthWord getStr zeroFrom beforeZero allSeries seriesRecords recordOfEntry shownBy followedBy itemsOf counted series seriesStart seriesEntry entriesFrom entry values kept noAttribute first facts formValue asFlag asUnsigned asOffset readByte find fitted entryRecord shown entryUnit typeShown compileShown defaultShown compileUnitOf typeUnitOf unitNumber unitNumberIn numberedUnit numberedTypeUnit compileUnit unitIn defaultCompileUnit dieOffset dieOffsetIn twoIndexes secondHeader secondIndex expected recordsOfIndex recordsOfName matchingNames nameIsMatch hashMatches stringMatches flatMap
 expected-two = refl

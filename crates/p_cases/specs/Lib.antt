@@ -1,3 +1,4 @@
 pub mod Cases
 pub mod CaseA
 pub mod Queries
+pub mod Split

@@ -1,11 +1,13 @@
-// Document 01's cases for the section query ("The section query"), and document 02's for padded numbers, a named case on each line. A case names
-// the section and what is changed in it, the hash and the name that are asked for, and how many records are lent. The file stdout beside
-// src/ has what the documents say, worked out by hand.
+// Document 01's cases for the section query ("The section query"), and document 02's for padded numbers and for entries with two units, a named
+// case on each line. A case names the section and what is changed in it, the hash and the name that are asked for, and how many records are
+// lent. The last cases are lines of the file stdin. The file stdout beside src/ has what the documents say, worked out by hand.
 mod ask; // a query and its line
 mod sections; // bytes
+mod split; // cases that a line of text describes
 
 use crate::ask::ask;
 use crate::ask::little;
+use libc::STDIN_FILENO;
 use reader::RunTimeEndian;
 
 fn main() {
@@ -30,6 +32,9 @@ fn main() {
     big_endian(&big);
     other_orders(&two, &big);
     no_strings(&series);
+    let mut text = io::large_buffer();
+    let len = io::read_full(STDIN_FILENO, &mut text);
+    split_units(&text, len);
 }
 
 // Document 01's query, and others on case A.
@@ -297,4 +302,12 @@ fn no_strings(s: &[u8]) {
         b"five",
         4,
     );
+}
+
+// Entries with both attributes of units: the text at the start of the bytes.
+fn split_units(text: &[u8], len: usize) {
+    if text.len() < len {
+        return;
+    }
+    split::lines(&text[0..len]);
 }

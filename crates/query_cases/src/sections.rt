@@ -80,6 +80,35 @@ pub const UNITS: [u8; 119] = *b"\x73\x00\x00\x00\x05\x00\x00\x00\x02\x00\x00\x00
     \x01\x01\x0a\x02\x00\x0b\x02\x01\x0c\x03\x0d\x00\
     \x04\x01\x00\x00";
 
+// Entries with both attributes of units, and no hash table: length 185, C 2, L 1, F 1, B 0, N 5, A 55; the compile units 0x100 and 0x200 (36), the
+// local type unit 0x300 (44), the foreign one 08 07 06 05 04 03 02 01 (48), strings (56), entry offsets (76), and the abbreviations (96):
+//     01 13  02 0b  01 0b  03 11  00 00    code 1, tag 19: type_unit data1, compile_unit data1, die_offset ref1
+//     02 13  01 0b  02 0b  03 11  00 00    code 2, tag 19: compile_unit data1, type_unit data1, die_offset ref1
+//     03 13  02 0b  01 0f  03 11  00 00    code 3, tag 19: type_unit data1, compile_unit udata, die_offset ref1
+//     04 13  02 0f  01 0b  03 11  00 00    code 4, tag 19: type_unit udata, compile_unit data1, die_offset ref1
+//     05 2e  01 0b  03 11  00 00           code 5, tag 46: compile_unit data1, die_offset ref1
+//     06 34  03 11  00 00                  code 6, tag 52: die_offset ref1
+// The pool from 151 to 189 has a line for each series:
+//     o 0   name 0, "both": type unit 1, compile unit 1
+//     o 5   name 1, "twin": compile unit 1, type unit 0
+//     o 10  name 2, "four": type unit 1, compile unit 4294967296
+//     o 19  name 3, "five": type unit 4294967296, compile unit 1
+//     o 28  name 4, "three": type unit 0 and compile unit 0; compile unit 1; no unit
+pub const SPLIT: [u8; 189] = *b"\xb9\x00\x00\x00\x05\x00\x00\x00\x02\x00\x00\x00\x01\x00\x00\x00\
+    \x01\x00\x00\x00\x00\x00\x00\x00\x05\x00\x00\x00\x37\x00\x00\x00\x00\x00\x00\x00\
+    \x00\x01\x00\x00\x00\x02\x00\x00\
+    \x00\x03\x00\x00\
+    \x08\x07\x06\x05\x04\x03\x02\x01\
+    \x25\x00\x00\x00\x16\x00\x00\x00\x06\x00\x00\x00\x01\x00\x00\x00\x0b\x00\x00\x00\
+    \x00\x00\x00\x00\x05\x00\x00\x00\x0a\x00\x00\x00\x13\x00\x00\x00\x1c\x00\x00\x00\
+    \x01\x13\x02\x0b\x01\x0b\x03\x11\x00\x00\x02\x13\x01\x0b\x02\x0b\x03\x11\x00\x00\x03\x13\x02\x0b\x01\x0f\x03\x11\x00\x00\
+    \x04\x13\x02\x0f\x01\x0b\x03\x11\x00\x00\x05\x2e\x01\x0b\x03\x11\x00\x00\x06\x34\x03\x11\x00\x00\x00\
+    \x01\x01\x01\x21\x00\
+    \x02\x01\x00\x22\x00\
+    \x03\x01\x80\x80\x80\x80\x10\x23\x00\
+    \x04\x80\x80\x80\x80\x10\x01\x24\x00\
+    \x01\x00\x00\x25\x05\x01\x26\x06\x27\x00";
+
 // Wrong forms, and no hash table: length 89, C 1, B 0, N 1, A 37; the unit 0x40 (36), the string "form" (40), the entry offset 0 (44), and
 // the abbreviations (48), all with tag 46:
 //     01 2e  03 11  00 00           code 1: die_offset ref1

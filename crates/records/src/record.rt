@@ -1,6 +1,6 @@
 // The record of an entry: where it stands, and what is shown of it.
+use crate::choice::entry_unit;
 use crate::unit::ShownUnitRead;
-use crate::unit::entry_unit;
 ghost use mathlib.Core.Path.{_≡_};
 ghost use Rattle.records.specs.Answers.{recordOutcome};
 ghost use Rattle.records.specs.Records.{Where, entryRecord};

@@ -1,4 +1,4 @@
-//! The section query. gimli has none: tools/oracle works it out by document 01's definition from gimli's own calls.
+//! The section query. gimli has none: tools/oracle works it out from gimli's own calls, by the documents' definition.
 
 use crate::desk::Desk;
 use crate::ffi::{Answer, Record};
@@ -71,6 +71,9 @@ fn query(desk: &mut Desk, hash: u32, name: &[u8]) {
         found.clear();
     }
     let records: Vec<Record> = found.iter().map(record).collect();
+    if found.iter().any(|record| record.both) {
+        desk.tally.other("query: a type unit beside a compile unit");
+    }
     let expected = desk.view().answer(answer, |()| (1, records.len() as u64));
     let total = records.len();
     let few = desk.random.pick(&[0, 1, 2, 4, total.saturating_sub(1)]);

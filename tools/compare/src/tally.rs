@@ -57,12 +57,13 @@ calls! {
 }
 
 /// What else a long run must meet.
-pub const ELSE: [&str; 14] = [
+pub const ELSE: [&str; 15] = [
     "query: total 0",
     "query: total within the records lent",
     "query: total above the records lent",
     "query: no records lent",
     "query: refused",
+    "query: a type unit beside a compile unit",
     "record: no unit",
     "record: a compile unit",
     "record: a local type unit",

@@ -31,9 +31,9 @@ const NEVER_REFUSED: [&str; 8] = [
     "record",
 ];
 
-/// The kinds of answers that queries must have as often; a refusal of each number but 10 is one too. The last eight are counted for each
+/// The kinds of answers that queries must have as often; a refusal of each number but 10 is one too. The last nine are counted for each
 /// record.
-const QUERIES: [&str; 14] = [
+const QUERIES: [&str; 15] = [
     "total 0",
     "total 1 to 4",
     "total above 4",
@@ -45,6 +45,7 @@ const QUERIES: [&str; 14] = [
     "the default unit",
     "a local type unit",
     "a foreign type unit",
+    "a type unit beside a compile unit",
     "by hash",
     "without a hash table",
     "no DIE offset",

@@ -24,6 +24,10 @@ const SEED: u64 = 0x0064_6562_7567_0005;
 /// Padded sections have a seed of their own.
 const PADDED_SEED: u64 = 0x0064_6562_7567_0008;
 
+/// Those of tests/real that stand behind the hash tables are the first of its list. The others stand behind the entries with both attributes of
+/// units.
+const REAL: usize = 13;
+
 /// How many random sections of each kind: valid ones, and damaged ones for each damage; and valid ones of several indexes for the query,
 /// of which there is one for each damage; and of each of these two those with each padding, and each damage of padded numbers.
 const VALID: usize = 300;
@@ -65,7 +69,8 @@ fn made() -> Made {
     made.cases.extend(entries::cases());
     made.add_random(&mut random, valid::section, VALID, EACH_DAMAGE);
     made.cases.extend(tables::cases());
-    made.cases.extend(real::cases());
+    let real = real::cases();
+    made.cases.extend_from_slice(&real[..REAL]);
     made.cases.extend(several::cases());
     made.add_random(&mut random, several::section, SEVERAL, 1);
     let mut random = Random(PADDED_SEED);
@@ -73,6 +78,8 @@ fn made() -> Made {
         made.add_padded(&mut random, valid::section);
         made.add_padded(&mut random, several::section);
     }
+    made.cases.extend(several::both_units());
+    made.cases.extend_from_slice(&real[REAL..]);
     made.add_padded_real();
     made
 }

@@ -1,8 +1,10 @@
-//! The section query. gimli has none: it is worked out here by document 01's definition from gimli's own calls.
+//! The section query. gimli has none: it is worked out here from gimli's own calls, by document 01's definition with document 02's choice of
+//! the unit (No. 5).
 
 use crate::answers::{Answers, MOST};
 use crate::hashes;
 use crate::lent::{Bytes, Lent};
+use gimli::constants::{DW_IDX_compile_unit, DW_IDX_type_unit};
 use gimli::{DebugNames, DebugStr, NameEntry, NameIndex, NameTableIndex, NameTypeUnit, Reader};
 
 /// So many records are lent to a query.
@@ -17,6 +19,8 @@ pub struct Record {
     pub name: u32,
     pub tag: u16,
     pub unit: Unit,
+    /// Whether the entry has both attributes of units.
+    pub both: bool,
     pub die: Option<usize>,
 }
 
@@ -145,25 +149,33 @@ fn series(index: &NameIndex<Bytes>, place: usize, name: NameTableIndex, records:
             name: name.0,
             tag: entry.tag.0,
             unit,
+            both: has_both(&entry),
             die,
         });
     }
     Ok(())
 }
 
-/// The unit of the compile_unit attribute, else of the type_unit attribute, else the default compile unit, else none.
+/// The unit of the type_unit attribute, else of the compile_unit attribute, else the default compile unit, else none. gimli's `type_unit`
+/// answers none only where the entry has no such attribute, so where one stands `compile_unit` is not called.
 fn unit<'a>(index: &NameIndex<Bytes<'a>>, entry: &NameEntry<Bytes<'a>>) -> gimli::Result<Unit> {
-    if let Some(offset) = entry.compile_unit(index)? {
-        return Ok(Unit::Compile(offset.0));
-    }
     if let Some(unit) = entry.type_unit(index)? {
         return Ok(match unit {
             NameTypeUnit::Local(offset) => Unit::Local(offset.0),
             NameTypeUnit::Foreign(signature) => Unit::Foreign(signature.0),
         });
     }
+    if let Some(offset) = entry.compile_unit(index)? {
+        return Ok(Unit::Compile(offset.0));
+    }
     let default = index.default_compile_unit()?;
     Ok(default.map_or(Unit::None, |offset| Unit::Default(offset.0)))
+}
+
+/// Whether an entry has both attributes of units.
+fn has_both(entry: &NameEntry<Bytes>) -> bool {
+    let has = |name| entry.attrs.iter().any(|attribute| attribute.name() == name);
+    has(DW_IDX_type_unit) && has(DW_IDX_compile_unit)
 }
 
 /// Counts the kinds of answers.
@@ -189,6 +201,9 @@ fn kinds(lent: &Lent, answer: &gimli::Result<()>, matched: bool, records: &[Reco
     }
     for record in records {
         kind(record.unit.words());
+        if record.both {
+            kind("a type unit beside a compile unit");
+        }
         kind(if record.hashed { "by hash" } else { "without a hash table" });
         kind(if record.die.is_some() { "a DIE offset" } else { "no DIE offset" });
     }

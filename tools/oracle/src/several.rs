@@ -18,13 +18,30 @@ pub fn cases() -> Vec<Case> {
     sections.iter().map(Case::encoded).collect()
 }
 
+/// Sections with an entry that has both attributes of units, behind an index with a good entry: a type unit of each list, two that are not
+/// there, one with too large a number and one of a wrong form, each beside such compile units. In little-endian order the type_unit attribute
+/// stands first, in big-endian order the compile_unit attribute.
+pub fn both_units() -> Vec<Case> {
+    let types = [(2, 0x0b, 0), (2, 0x0b, 1), (2, 0x0b, 2), (2, 0x0b, 3), (2, 0x0f, 0x1_0000_0000), (2, 0x19, 0)];
+    let compile = [(1, 0x0b, 1), (1, 0x0b, 2), (1, 0x0b, 3), (1, 0x0f, 0x1_0000_0000), (1, 0x11, 0)];
+    let mut sections = Vec::new();
+    for (order, wide) in BOTH {
+        for (type_unit, unit) in types.iter().flat_map(|type_unit| compile.iter().map(move |unit| (*type_unit, *unit))) {
+            let [first, second] = if wide { [unit, type_unit] } else { [type_unit, unit] };
+            let index = entries::one(order, wide, &[first, second, (3, 0x11, 9)]);
+            sections.push(entries::section(order, vec![good(wide), index]));
+        }
+    }
+    sections.iter().map(Case::encoded).collect()
+}
+
 /// An index with an entry of "abc", and no hash table.
 fn good(wide: bool) -> Index {
     entries::small(wide, &[(1, vec![(3, 0x11)])], &[1, 5, 0], &[0])
 }
 
 /// Indexes with an entry that has two wrong attributes, or a wrong one beside a right one, in one order and the other. The refusal shows
-/// which was looked at first: the whole entry, then the unit, and that by the compile_unit attribute, then the DIE offset.
+/// which was looked at first: the whole entry, then the unit, and that by the type_unit attribute, then the DIE offset.
 fn wrong_entries(order: Order, wide: bool) -> Vec<Index> {
     let (unit, type_unit, die, unknown) = ((1, 0x11, 0), (2, 0x19, 0), (3, 0x0b, 0), (6, 0x0e, 0));
     let (missing, large) = ((1, 0x0b, 2), (1, 0x0f, 0x1_0000_0000));

@@ -1,9 +1,9 @@
--- `records::unit::type_shown` meets its contract: each answer is the definition's, by the calls and the tests that led there.
+-- `records::type_unit::shown` meets its contract: each answer is the definition's, by the calls and the tests that led there.
 -- Assumes nothing.
 use borrow.Author.Needs.{needs}
 use Rattle.records.specs.Units.{typeShown}
-use Rattle.records.proofs.unit.type_shown.Statement.{statement}
-use Rattle.records.proofs.unit.type_shown.Tie as tie
+use Rattle.records.proofs.type_unit.shown.Statement.{statement}
+use Rattle.records.proofs.type_unit.shown.Tie as tie
 
 type-unit-requires : tie.Need-type-unit-requires
 type-unit-requires c κs = search needs
@@ -63,8 +63,8 @@ returns-4 c =
       c .before .unit2 .given .1,
     )
 
-pub type-shown-spec : {M : Type 1} → statement M
-type-shown-spec =
+pub shown-spec : {M : Type 1} → statement M
+shown-spec =
     tie.close
     (tie.spec
     type-unit-requires

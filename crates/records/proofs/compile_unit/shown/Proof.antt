@@ -1,9 +1,9 @@
--- `records::unit::compile_shown` meets its contract: each answer is the definition's, by the calls and the tests that led there.
+-- `records::compile_unit::shown` meets its contract: each answer is the definition's, by the calls and the tests that led there.
 -- Assumes nothing.
 use borrow.Author.Needs.{needs}
 use Rattle.records.specs.Units.{compileShown}
-use Rattle.records.proofs.unit.compile_shown.Statement.{statement}
-use Rattle.records.proofs.unit.compile_shown.Tie as tie
+use Rattle.records.proofs.compile_unit.shown.Statement.{statement}
+use Rattle.records.proofs.compile_unit.shown.Tie as tie
 
 compile-unit-requires : tie.Need-compile-unit-requires
 compile-unit-requires c κs = search needs
@@ -46,8 +46,8 @@ returns-3 c =
       c .enum-told .given .1,
     )
 
-pub compile-shown-spec : {M : Type 1} → statement M
-compile-shown-spec =
+pub shown-spec : {M : Type 1} → statement M
+shown-spec =
     tie.close
     (tie.spec
     compile-unit-requires
