@@ -1,13 +1,16 @@
--- Laws of attributes: the values one pair at a time, with no count of turns; the first attribute of each name, kept on the way.
+-- Laws of attributes: the values one pair at a time, with no count of turns; the first attribute of each name, kept on the way; and whether it
+-- has the number of a unit.
 use Prim.Native.Nat.{ℕ, zero, suc, _≤_}
 use mathlib.Core.Path.{_≡_, refl, sym, ap, _∙_}
-use mathlib.Core.Bool.{Bool, true, false, cond}
+use mathlib.Core.Bool.{Bool, true, false, false≢true, cond}
 use mathlib.Core.Logic.{_⊎_, inl, inr}
-use mathlib.Core.List.{List, [], _∷_}
+use mathlib.Core.List.{List, [], _∷_, map}
 use native.Mathlib.Omega.{arith}
-use lib.Dec.{eqb}
+use lib.Dec.{ltb, eqb}
+use borrow.Author.Tests.{eqb-true, eqb-false, eq-eqb, ne-eqb}
 use Rattle.reader.specs.Outcome.{Outcome, answered, refused, _>>=_}
 use Rattle.reader.specs.Parts.{partEnd, leftAt}
+use Rattle.reader.specs.Lists.{memberb}
 use Rattle.reader.specs.declared.endianity.RunTimeEndian.{RunTimeEndian}
 use Rattle.reader.proofs.OutcomeLaws.{refused-answered, same-answer, bind-answered, bind-same, cond-is}
 use Rattle.abbreviations.specs.Abbreviations.{Attribute, Attributes, Pair, pair, before, attributesIn, attributes}
@@ -15,10 +18,13 @@ use Rattle.abbreviations.proofs.AbbreviationLaws.{pair-forward, pair-none}
 use Rattle.forms.specs.Forms.{Valued, formValue}
 use Rattle.forms.proofs.FormLaws as forms
 use Rattle.forms.specs.declared.NameAttributeValue.{NameAttributeValue}
+use Rattle.attributes.specs.declared.attribute.Kind.{Kind}
 use Rattle.attributes.specs.declared.attribute.FirstAttribute.{FirstAttribute}
+use Rattle.attributes.specs.declared.attribute.UnitNumber.{UnitNumber}
 use Rattle.attributes.specs.declared.facts.Facts.{Facts}
 use Rattle.attributes.specs.declared.facts.ReadFacts.{ReadFacts}
-use Rattle.attributes.specs.Sanity.{ValuesDeclared, EntryValuesOnward}
+use Rattle.attributes.specs.Meaning.{unitNumberIn, unitNumber}
+use Rattle.attributes.specs.Sanity.{ValuesDeclared, EntryValuesOnward, standsAs, stands, StandsExactly}
 use Rattle.attributes.specs.Attributes.{NameAttribute, Values, valueThen, values, kept, noAttribute, first, compileUnitName, typeUnitName, dieOffsetName, parentName, typeHashName, facts, valuesIn, valuesFrom, factsRead, orElseBy, orElse, withOne, withFact, noFacts}
 
 -- a pair, its value, and the values after it
@@ -212,3 +218,47 @@ entry-values-onward order s (a ∷ more) at end v inside e =
     let (further, still) = entry-values-onward order s more (one .next) end others within read-others in
     let past : v .next ≡ others .next = ap (λ v. v .next) (sym (same-answer same)) in
     (omega arith, omega arith)
+
+pub stands-exactly : StandsExactly
+unfolding first memberb standsAs noAttribute kept
+stands-exactly name [] = refl
+stands-exactly name (a ∷ more) = by-name (eqb (a .name) name) refl (stands-exactly name more)
+  where
+    stands-kept : (v : NameAttributeValue) → stands (kept (a .form) v) ≡ true
+    stands-kept (NameAttributeValue.Unsigned n) = refl
+    stands-kept (NameAttributeValue.Offset n) = refl
+    stands-kept (NameAttributeValue.Flag b) = refl
+
+    by-name : (same : Bool) → eqb (a .name) name ≡ same → stands (first name more) ≡ memberb name (map (λ a. a .name) more)
+        → stands (first name (a ∷ more)) ≡ memberb name (map (λ a. a .name) (a ∷ more))
+    by-name true e rest = rw (e, eq-eqb _ _ (sym (eqb-true (a .name) name e))) (stands-kept (a .value))
+    by-name false e rest = rw (e, ne-eqb name (a .name) (λ q. eqb-false (a .name) name e (sym q))) rest
+
+-- where there is no attribute of the name, there is no number
+pub no-number : (a : FirstAttribute) → stands a ≡ false → unitNumber a ≡ answered UnitNumber.None
+unfolding unitNumber unitNumberIn standsAs
+no-number a = by-kind (a .kind)
+  where
+    by-kind : (kind : Kind) → standsAs kind ≡ false → unitNumberIn kind (a .form) (a .number) ≡ answered UnitNumber.None
+    by-kind Kind.None h = refl
+    by-kind Kind.Unsigned h = absurd (false≢true (sym h))
+    by-kind Kind.Offset h = absurd (false≢true (sym h))
+    by-kind Kind.Flag h = absurd (false≢true (sym h))
+
+-- where there is one, it has a number or is refused
+abbrev pub NumberOrRefusal : Outcome UnitNumber → Type 0
+NumberOrRefusal o = ((n : ℕ) × (o ≡ answered (UnitNumber.Some n))) ⊎ ((n v : ℕ) × (o ≡ refused n v))
+
+pub some-number : (a : FirstAttribute) → stands a ≡ true → NumberOrRefusal (unitNumber a)
+unfolding unitNumber unitNumberIn standsAs
+some-number a = by-kind (a .kind)
+  where
+    by-size : (beyond : Bool) → NumberOrRefusal (cond beyond (refused 11 (a .number)) (answered (UnitNumber.Some (a .number))))
+    by-size true = inr (11, a .number, refl)
+    by-size false = inl (a .number, refl)
+
+    by-kind : (kind : Kind) → standsAs kind ≡ true → NumberOrRefusal (unitNumberIn kind (a .form) (a .number))
+    by-kind Kind.None h = absurd (false≢true h)
+    by-kind Kind.Unsigned h = by-size (ltb 4294967295 (a .number))
+    by-kind Kind.Offset h = inr (12, a .form, refl)
+    by-kind Kind.Flag h = inr (12, a .form, refl)

@@ -1,15 +1,19 @@
--- Document 02, No. 5, on a section: a query meets an entry with both attributes of units, and demand 3 speaks of the record with the type unit.
+-- Document 02, No. 5, on a section: a query meets an entry with both attributes of units, demand 3 speaks of the record with the type unit, and the
+-- two facts of the entry answer as they did.
 use Prim.Native.Nat.{ℕ}
 use mathlib.Core.Path.{_≡_}
-use mathlib.Core.List.{List, [], _∷_}
-use Rattle.reader.specs.Outcome.{answered}
+use mathlib.Core.List.{List, [], _∷_, _++_, map}
+use lib.ListN.{length, take, drop}
+use Rattle.reader.specs.Outcome.{answered, refused}
 use Rattle.reader.specs.declared.endianity.RunTimeEndian.{RunTimeEndian}
 use Rattle.reader.specs.declared.common.Format.{Format}
 use Rattle.headers.specs.declared.header.Augmentation.{Augmentation}
 use Rattle.headers.specs.declared.header.NameIndexHeader.{NameIndexHeader}
 use Rattle.index.specs.declared.layout.NameIndex.{NameIndex}
+use Rattle.names.specs.declared.units.NameTypeUnit.{NameTypeUnit}
+use Rattle.attributes.specs.declared.units.EntryTypeUnit.{EntryTypeUnit}
+use Rattle.entries.specs.Facts.{entryCompileUnit, entryTypeUnit}
 use Rattle.records.specs.declared.record.Record.{Record}
-use Rattle.query_plan.specs.Plans.{Queried}
 use Rattle.query.specs.Query.{sectionQuery}
 use Rattle.demand3.specs.Expected.{OpenIndex, expected}
 use Rattle.demand3.specs.Demand3.{Each, AllOpen, CompleteOrNoTable}
@@ -84,11 +88,10 @@ splitRecord = record {
 }
 
 -- the query finds it
-abbrev pub queryOfSplit : Queried
-queryOfSplit = sectionQuery RunTimeEndian.Little splitUnits stringsA 7 de (old ∷ [])
-
-abbrev pub foundInSplit : Queried
-foundInSplit = record { answer = answered 1; records = splitRecord ∷ [] }
+abbrev pub FoundInSplit : Type 0
+FoundInSplit =
+    sectionQuery RunTimeEndian.Little splitUnits stringsA 7 de (old ∷ [])
+    ≡ record { answer = answered 1; records = splitRecord ∷ [] }
 
 -- what demand 3 supposes holds here, and this record is what it expects
 abbrev pub AllOpenSplit : Type 0
@@ -99,3 +102,18 @@ CompleteSplit = Each (CompleteOrNoTable RunTimeEndian.Little splitUnits) openSpl
 
 abbrev pub ExpectedSplit : Type 0
 ExpectedSplit = expected RunTimeEndian.Little splitUnits stringsA 7 de openSplit ≡ answered splitRecord ∷ []
+
+-- so demand 3 says of the query
+abbrev pub SplitListed : Type 0
+SplitListed =
+    (1 ≡ length (expected RunTimeEndian.Little splitUnits stringsA 7 de openSplit))
+    × ((new : List Record)
+    × (map answered new ≡ take 1 (expected RunTimeEndian.Little splitUnits stringsA 7 de openSplit))
+    × (splitRecord ∷ [] ≡ new ++ drop (length new) (old ∷ [])))
+
+-- the facts themselves answer as gimli: that compile unit is refused at the start of its list, 36, and the type unit is the foreign one
+abbrev pub SplitFacts : Type 0
+SplitFacts =
+    (entryCompileUnit RunTimeEndian.Little splitUnits splitIndex (record { 0 = 0 }) ≡ refused 1 36)
+    × (entryTypeUnit RunTimeEndian.Little splitUnits splitIndex (record { 0 = 0 })
+    ≡ answered (EntryTypeUnit.Some (NameTypeUnit.Foreign (record { 0 = 0x0102030405060708 }))))

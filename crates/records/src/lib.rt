@@ -3,8 +3,8 @@
 //
 // The unit is chosen by `entry_unit` and nowhere else.
 pub mod unit; // a unit that is shown, as an answer
-pub mod type_unit; // the unit that the type_unit attribute names
-pub mod compile_unit; // the unit that the compile_unit attribute names
+mod type_unit; // the unit that the type_unit attribute names
+mod compile_unit; // the unit that the compile_unit attribute names
 pub mod choice; // the choice of the unit
 pub mod record; // the record of an entry
 
