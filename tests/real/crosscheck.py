@@ -4,8 +4,9 @@
     python3 crosscheck.py
 
 It needs llvm-objcopy-19 and llvm-dwarfdump-19. The answers are those of crates/oracle_replay/stdout, which the program oracle_replay
-writes too, to the sections of crates/oracle_replay/stdin that have the same bytes. Compared are the headers, units, declarations, the names of each bucket with their hashes, the strings, the
-entries of each name and their facts. It prints how much was compared, and each difference; a difference makes it fail.
+writes too, to the sections of crates/oracle_replay/stdin that have the same bytes. Compared are the headers, units, declarations, the names
+of each bucket with their hashes, the strings, the entries of each name and their facts. It prints how much was compared, and each
+difference; a difference makes it fail.
 """
 
 import collections
@@ -230,14 +231,14 @@ def places(answers):
 
 
 def replay():
-    """The answers to each section of the replay, by its bytes. tools/oracle/README.md says what the file of sections is."""
+    """The answers to each section of the replay, by its byte order and bytes. tools/oracle/README.md says what the file of sections is."""
     file = SECTIONS.read_bytes()
     texts = re.split(r"^section \d+\n", ANSWERS.read_text().split("\nsections ")[0], flags=re.M)[1:]
     answers, at = {}, 2
     for text in texts:
         names, strings = (int.from_bytes(file[at + place : at + place + 2], "little") for place in (1, 3))
         middle = at + 5 + names
-        answers[file[at + 5 : middle], file[middle : middle + strings]] = text
+        answers[file[at], file[at + 5 : middle], file[middle : middle + strings]] = text
         at = middle + strings
     if at != len(file):
         sys.exit("the replay has other sections than answers")
@@ -251,9 +252,10 @@ def main():
     different = 0
     for name, order in cases:
         names, strings = (HERE / f"{name}.names").read_bytes(), (HERE / f"{name}.str").read_bytes()
-        if (names, strings) not in sections:
+        text = sections.get((["little", "big"].index(order), names, strings))
+        if text is None:
             sys.exit(f"{name} is not in the replay")
-        dumped, replayed = parse(dump(name, order)), answered(sections[names, strings].splitlines())
+        dumped, replayed = parse(dump(name, order)), answered(text.splitlines())
         if len(dumped) != len(replayed):
             sys.exit(f"{name}: {len(dumped)} indexes in the dump, {len(replayed)} in the replay")
         for index, answers in zip(dumped, replayed):

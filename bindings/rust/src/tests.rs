@@ -1,4 +1,4 @@
-//! Document 01's case A, whose expected values are worked out by hand from that document, and a section of llvm-bolt.
+//! Document 01's case A, and document 02's entries with two units. The expected values are worked out by hand from these documents.
 
 use crate::calls::{self, Outcome, Section};
 use crate::ffi;
@@ -300,18 +300,24 @@ fn refused_query() {
     assert_eq!(records, [untouched; 2]);
 }
 
-/// A section of llvm-bolt, of a split build: "own" is a type of two units, under one signature. The records show the type unit, and the entries
-/// tell which compilation unit leads to the split file. The expected values are those of llvm-dwarfdump.
+/// A type that two units of a split build have, under one signature: both attributes of units stand in its two entries. The records show the
+/// type unit, and the entries tell which compilation unit leads to the split file.
 #[test]
 fn both_units() {
-    let section = include_bytes!("../../../tests/real/bolt19-split.names");
-    let debug_str = DebugStr::new(include_bytes!("../../../tests/real/bolt19-split.str"), LittleEndian);
+    let numbers: [u32; 8] = [5, 2, 0, 1, 0, 1, 11, 0];
+    let mut bytes = 76u32.to_le_bytes().to_vec();
+    bytes.extend(numbers.into_iter().flat_map(u32::to_le_bytes));
+    bytes.extend([0x40u32, 0x80].into_iter().flat_map(u32::to_le_bytes));
+    bytes.extend(0x0102_0304_0506_0708u64.to_le_bytes());
+    bytes.extend([5u32, 0].into_iter().flat_map(u32::to_le_bytes));
+    bytes.extend([1, 0x13, 2, 0x0b, 1, 0x0b, 3, 0x11, 0, 0, 0]);
+    bytes.extend([1, 0, 0, 5, 1, 0, 1, 5, 0]);
     let mut records = [Record::default(); 3];
-    assert_eq!(DebugNames::new(section, LittleEndian).query(&debug_str, 0x0b88_9ad9, b"own", &mut records), Ok(2));
-    let index = index(section);
-    for (record, unit) in records.iter().zip([0, 0x29]) {
-        assert_eq!(record.unit(), Some(RecordUnit::ForeignType(DebugTypeSignature(0x9092_d017_bbd8_4c2b))));
-        assert_eq!((record.tag(), record.die_offset()), (DwTag(0x13), Some(UnitOffset(0x21))));
+    assert_eq!(DebugNames::new(&bytes, LittleEndian).query(&strings(), 0, b"de", &mut records), Ok(2));
+    let index = index(&bytes);
+    for (record, unit) in records.iter().zip([0x40, 0x80]) {
+        assert_eq!(record.unit(), Some(RecordUnit::ForeignType(DebugTypeSignature(0x0102_0304_0506_0708))));
+        assert_eq!((record.tag(), record.die_offset()), (DwTag(0x13), Some(UnitOffset(5))));
         assert_eq!(index.name_entry(record.entry()).unwrap().compile_unit(&index), Ok(Some(DebugInfoOffset(unit))));
     }
     assert_eq!(records[2], Record::default());

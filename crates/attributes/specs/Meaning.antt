@@ -17,7 +17,7 @@ use Rattle.attributes.specs.declared.attribute.TypeHash.{TypeHash}
 use Rattle.attributes.specs.declared.units.EntryUnit.{EntryUnit}
 use Rattle.attributes.specs.declared.units.EntryTypeUnit.{EntryTypeUnit}
 
--- the number of a unit: unsigned, and of at most 32 bits, else 11 with the number
+-- the number of a unit: unsigned, else 12 with the form; and of at most 32 bits, else 11 with the number
 unfoldable pub unitNumberIn : Kind → ℕ → ℕ → Outcome UnitNumber
 unitNumberIn Kind.None form n = answered UnitNumber.None
 unitNumberIn Kind.Unsigned form n = cond (ltb 4294967295 n) (refused 11 n) (answered (UnitNumber.Some n))

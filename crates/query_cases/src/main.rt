@@ -148,7 +148,8 @@ fn series_of_none() {
     little(b"series, none past the pool, 9 none", &s, 9, b"none", 4);
 }
 
-// Units by compile_unit, by local and foreign type_unit, and none for C = 2; compile_unit after type_unit. There is no hash table.
+// Units by compile_unit, by local and foreign type_unit, and none for C = 2; and an entry with both, whose type unit is shown. There is no hash
+// table.
 fn kinds(s: &[u8]) {
     little(b"units, 0 unit", s, 0, b"unit", 4);
     little(b"units, 4294967295 unit", s, 4294967295, b"unit", 4);

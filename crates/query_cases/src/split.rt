@@ -3,7 +3,7 @@
 //     name, what the case is; place=byte place=byte ..
 //
 // The name is asked for, with the hash 0, in the section `SPLIT` with each of these bytes put at its place, all in decimal digits. A line that
-// begins with # is a remark.
+// begins with # is a remark, and an empty one is passed over.
 use crate::ask::little;
 use crate::sections::SPLIT;
 

@@ -1,7 +1,7 @@
 -- Laws of the choice of a unit: what decides it, and where it is document 01's.
 use Prim.Native.Nat.{ℕ}
 use mathlib.Core.Path.{_≡_, refl, sym, _∙_}
-use mathlib.Core.Bool.{Bool, true, false, cond, _&&_, false≢true}
+use mathlib.Core.Bool.{Bool, true, false, false≢true, _&&_}
 use mathlib.Core.Logic.{_⊎_, inl, inr}
 use mathlib.Core.List.{List}
 use mathlib.Core.Option.{none}
@@ -15,7 +15,6 @@ use Rattle.index.specs.Layout.{wordBytes, hashBytes, sizes, placesFrom, place, 
 use Rattle.names.specs.declared.units.NameTypeUnit.{NameTypeUnit}
 use Rattle.names.specs.Units.{nthWord, unitIn, compileUnit, localTypeUnit, foreignTypeUnit, typeUnit, defaultCompileUnit}
 use Rattle.attributes.specs.declared.attribute.FirstAttribute.{FirstAttribute}
-use Rattle.attributes.specs.declared.attribute.UnitNumber.{UnitNumber}
 use Rattle.attributes.specs.declared.units.EntryTypeUnit.{EntryTypeUnit}
 use Rattle.attributes.specs.Attributes.{noAttribute}
 use Rattle.attributes.specs.Meaning.{unitNumberIn, unitNumber, numberedUnit, numberedTypeUnit, compileUnitOf, typeUnitOf}
@@ -23,13 +22,17 @@ use Rattle.attributes.specs.Sanity.{standsAs, stands}
 use Rattle.attributes.proofs.AttributeLaws.{NumberOrRefusal, no-number, some-number}
 use Rattle.records.specs.declared.unit.ShownUnit.{ShownUnit}
 use Rattle.records.specs.Units.{ofTypeUnit, asTypeUnit, typeShown, compileShown, defaultShown, _orNext_, entryUnit}
-use Rattle.records.specs.Sanity.{TypeUnitDecides, OtherNotResolved, compileUnitFirst, OneUnitAsBefore, UnitsComputed, UnitsSuppose}
+use Rattle.records.specs.Sanity.{AsTypeUnit, TypeUnitDecides, OtherNotResolved, compileUnitFirst, OneUnitAsBefore, UnitsComputed, UnitsSuppose}
 
--- what a type_unit attribute names decides, whatever comes next: it is a unit, or a refusal
+-- the unit that the fact `type_unit` gives, or what comes next
+abbrev typeOr : Outcome EntryTypeUnit → Outcome ShownUnit → Outcome ShownUnit
+typeOr fact next = (fact >>= λ u. answered (asTypeUnit u)) orNext next
+
+-- the fact decides, whatever comes next: it is a unit, or a refusal
 abbrev Decided : Outcome EntryTypeUnit → Type 0
-Decided o =
-    ((u : NameTypeUnit) × (o ≡ answered (EntryTypeUnit.Some u)) × ((next : Outcome ShownUnit) → ((o >>= λ u. answered (asTypeUnit u)) orNext next) ≡ answered (ofTypeUnit u)))
-    ⊎ ((n v : ℕ) × (o ≡ refused n v) × ((next : Outcome ShownUnit) → ((o >>= λ u. answered (asTypeUnit u)) orNext next) ≡ refused n v))
+Decided fact =
+    ((u : NameTypeUnit) × (fact ≡ answered (EntryTypeUnit.Some u)) × ((next : Outcome ShownUnit) → typeOr fact next ≡ answered (ofTypeUnit u)))
+    ⊎ ((n v : ℕ) × (fact ≡ refused n v) × ((next : Outcome ShownUnit) → typeOr fact next ≡ refused n v))
 
 module _ (order : RunTimeEndian) (s : List ℕ) (i : NameIndex) where
   -- an attribute that the entry does not have names no unit
@@ -58,9 +61,7 @@ pub type-unit-decides : TypeUnitDecides
 unfolding entryUnit typeShown
 type-unit-decides order s i f h = by-unit (decided order s i (f .«type_unit») h)
   where
-    by-unit : Decided (typeUnitOf order s i (f .«type_unit»))
-        → ((u : NameTypeUnit) × (typeUnitOf order s i (f .«type_unit») ≡ answered (EntryTypeUnit.Some u)) × (entryUnit order s i f ≡ answered (ofTypeUnit u)))
-        ⊎ ((n v : ℕ) × (typeUnitOf order s i (f .«type_unit») ≡ refused n v) × (entryUnit order s i f ≡ refused n v))
+    by-unit : Decided (typeUnitOf order s i (f .«type_unit»)) → AsTypeUnit (typeUnitOf order s i (f .«type_unit»)) (entryUnit order s i f)
     by-unit (inl (u, e, shown)) = inl (u, e, shown _)
     by-unit (inr (n, v, e, shown)) = inr (n, v, e, shown _)
 
@@ -68,8 +69,7 @@ pub other-not-resolved : OtherNotResolved
 unfolding entryUnit typeShown
 other-not-resolved order s i f g h same = rw (← same) (by-unit (decided order s i (f .«type_unit») h) _ _)
   where
-    by-unit : {o : Outcome EntryTypeUnit} → Decided o → (next other : Outcome ShownUnit)
-        → ((o >>= λ u. answered (asTypeUnit u)) orNext next) ≡ ((o >>= λ u. answered (asTypeUnit u)) orNext other)
+    by-unit : {fact : Outcome EntryTypeUnit} → Decided fact → (next other : Outcome ShownUnit) → typeOr fact next ≡ typeOr fact other
     by-unit (inl (u, e, shown)) next other = shown next ∙ sym (shown other)
     by-unit (inr (n, v, e, shown)) next other = shown next ∙ sym (shown other)
 

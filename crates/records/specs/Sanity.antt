@@ -20,17 +20,18 @@ use Rattle.attributes.specs.Sanity.{stands}
 use Rattle.records.specs.declared.unit.ShownUnit.{ShownUnit}
 use Rattle.records.specs.Units.{unitOf, ofTypeUnit, typeShown, compileShown, defaultShown, _orNext_, entryUnit}
 
--- Where a type_unit attribute stands (`StandsExactly` of `attributes` says when), the fact `type_unit` answers a unit, and that unit is shown; or it is refused, and so is the unit: nothing
--- stands in for it.
+-- the fact `type_unit` answers a unit, and that one is shown; or the fact is refused, and so is the unit
+abbrev pub AsTypeUnit : Outcome EntryTypeUnit → Outcome ShownUnit → Type 0
+AsTypeUnit fact unit =
+    ((u : NameTypeUnit) × (fact ≡ answered (EntryTypeUnit.Some u)) × (unit ≡ answered (ofTypeUnit u)))
+    ⊎ ((n v : ℕ) × (fact ≡ refused n v) × (unit ≡ refused n v))
+
+-- Where a type_unit attribute stands, it decides, and nothing stands in for its unit. `StandsExactly` of `attributes` says that an attribute
+-- stands exactly if the entry has it, in any form.
 abbrev pub TypeUnitDecides : Type 0
 TypeUnitDecides =
     (order : RunTimeEndian) (s : List ℕ) (i : NameIndex) (f : Facts) → stands (f .«type_unit») ≡ true
-    → ((u : NameTypeUnit)
-    × (typeUnitOf order s i (f .«type_unit») ≡ answered (EntryTypeUnit.Some u))
-    × (entryUnit order s i f ≡ answered (ofTypeUnit u)))
-    ⊎ ((n v : ℕ)
-    × (typeUnitOf order s i (f .«type_unit») ≡ refused n v)
-    × (entryUnit order s i f ≡ refused n v))
+    → AsTypeUnit (typeUnitOf order s i (f .«type_unit»)) (entryUnit order s i f)
 
 -- Where it stands, the compile_unit attribute is not resolved: with any other one, or none, the unit is the same, and so is the refusal.
 abbrev pub OtherNotResolved : Type 0
@@ -84,8 +85,8 @@ abbrev pub flagged : FirstAttribute
 flagged = record { form = 0x0c; kind = Kind.Flag; number = 1 }
 
 -- the unit that is shown of an entry with this type_unit attribute and this compile_unit attribute
-abbrev pub unitIn : NameIndex → FirstAttribute → FirstAttribute → Outcome ShownUnit
-unitIn i type compile = entryUnit RunTimeEndian.Little lists i (record {
+abbrev pub unitAmong : NameIndex → FirstAttribute → FirstAttribute → Outcome ShownUnit
+unitAmong i type compile = entryUnit RunTimeEndian.Little lists i (record {
   «compile_unit» = compile;
   «type_unit» = type;
   «die_offset» = noAttribute;
@@ -94,10 +95,10 @@ unitIn i type compile = entryUnit RunTimeEndian.Little lists i (record {
 })
 
 abbrev pub ofTwo : FirstAttribute → FirstAttribute → Outcome ShownUnit
-ofTwo = unitIn (listsFrom 0 2)
+ofTwo = unitAmong (listsFrom 0 2)
 
 abbrev pub ofOne : FirstAttribute → FirstAttribute → Outcome ShownUnit
-ofOne = unitIn (listsFrom 4 1)
+ofOne = unitAmong (listsFrom 4 1)
 
 -- With C 2. Both attributes: the local type unit; the foreign one; the same with a compile unit that is not there (two numbers), with one of more
 -- than 32 bits, and with two of a wrong form. Then type units that are refused beside a compile unit that is there: not there, at the end and at

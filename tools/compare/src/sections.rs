@@ -18,7 +18,8 @@ impl Sections {
     pub fn new() -> Sections {
         let cuts = fixed::cuts().into_iter().map(|(_, cut)| cut).collect();
         let padded = padded::real_cases().into_iter().map(|(_, padded)| padded).collect();
-        let fixed = [fixed::cases(), cuts, entries::cases(), tables::cases(), several::cases(), several::both_units(), real::cases(), padded];
+        let fixed =
+            [fixed::cases(), cuts, entries::cases(), tables::cases(), several::cases(), several::both_units(), real::cases(), padded];
         let damages = damage::all().chain(PADDINGS).chain(PADDED_DAMAGES).collect();
         Sections { damages, fixed: fixed.concat() }
     }

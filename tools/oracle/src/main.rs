@@ -4,7 +4,7 @@
 //!
 //! README.md has the whole. What is where: `random`, the random numbers; `bytes`, numbers into bytes; `model`, what a section is
 //! made of, and `parsed`, the way back; `valid`, valid sections; `damage`, damaged ones; `fixed`, `entries` and `tables`, sections that are
-//! not random; `real`, those of compilers, linkers and gdb; `several`, those for the query; `padded`, LEB128 numbers that are padded;
+//! not random; `real`, those of compilers and other producers; `several`, those for the query; `padded`, LEB128 numbers that are padded;
 //! `case`, the file of sections; `lent`, the sections as they are lent to gimli, and its errors as refusals; `reader` and `leb128_7_6`, how
 //! gimli reads them; `answers`, the calls, `hashes`, those on hash tables, `pool`, those on entries, and `query`, the query; `check`, what
 //! must hold of gimli, of the valid and the padded sections and of the whole. The library of this package, src/lib.rs, is gimli with all

@@ -1,4 +1,4 @@
-//! Sections that compilers, linkers and gdb wrote: those of the folder tests/real. Its sections.txt has a line for each, the name and
+//! Sections that compilers, linkers, llvm-bolt and gdb wrote: those of the folder tests/real. Its sections.txt has a line for each, the name and
 //! the byte order; the bytes are in NAME.names and NAME.str.
 
 use std::fs;
