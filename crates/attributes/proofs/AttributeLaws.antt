@@ -245,19 +245,20 @@ no-number a = by-kind (a .kind)
     by-kind Kind.Offset h = absurd (false≢true (sym h))
     by-kind Kind.Flag h = absurd (false≢true (sym h))
 
--- where there is one, it has a number or is refused
-abbrev pub NumberOrRefusal : Outcome UnitNumber → Type 0
-NumberOrRefusal o = ((n : ℕ) × (o ≡ answered (UnitNumber.Some n))) ⊎ ((n v : ℕ) × (o ≡ refused n v))
+-- the answer is some, and not none; or it is a refusal
+abbrev pub SomeOrRefused : {A B : Type 0} → (B → A) → Outcome A → Type 0
+SomeOrRefused {A} {B} some o = ((b : B) × (o ≡ answered (some b))) ⊎ ((n v : ℕ) × (o ≡ refused n v))
 
-pub some-number : (a : FirstAttribute) → stands a ≡ true → NumberOrRefusal (unitNumber a)
+-- where there is one, it has a number or is refused
+pub some-number : (a : FirstAttribute) → stands a ≡ true → SomeOrRefused UnitNumber.Some (unitNumber a)
 unfolding unitNumber unitNumberIn standsAs
 some-number a = by-kind (a .kind)
   where
-    by-size : (beyond : Bool) → NumberOrRefusal (cond beyond (refused 11 (a .number)) (answered (UnitNumber.Some (a .number))))
+    by-size : (beyond : Bool) → SomeOrRefused UnitNumber.Some (cond beyond (refused 11 (a .number)) (answered (UnitNumber.Some (a .number))))
     by-size true = inr (11, a .number, refl)
     by-size false = inl (a .number, refl)
 
-    by-kind : (kind : Kind) → standsAs kind ≡ true → NumberOrRefusal (unitNumberIn kind (a .form) (a .number))
+    by-kind : (kind : Kind) → standsAs kind ≡ true → SomeOrRefused UnitNumber.Some (unitNumberIn kind (a .form) (a .number))
     by-kind Kind.None h = absurd (false≢true h)
     by-kind Kind.Unsigned h = by-size (ltb 4294967295 (a .number))
     by-kind Kind.Offset h = inr (12, a .form, refl)

@@ -1,6 +1,6 @@
 -- Laws of the choice of a unit: what decides it, and where it is document 01's.
 use Prim.Native.Nat.{ℕ}
-use mathlib.Core.Path.{_≡_, refl, sym, _∙_}
+use mathlib.Core.Path.{_≡_, refl, sym}
 use mathlib.Core.Bool.{Bool, true, false, false≢true, _&&_}
 use mathlib.Core.Logic.{_⊎_, inl, inr}
 use mathlib.Core.List.{List}
@@ -15,24 +15,14 @@ use Rattle.index.specs.Layout.{wordBytes, hashBytes, sizes, placesFrom, place, 
 use Rattle.names.specs.declared.units.NameTypeUnit.{NameTypeUnit}
 use Rattle.names.specs.Units.{nthWord, unitIn, compileUnit, localTypeUnit, foreignTypeUnit, typeUnit, defaultCompileUnit}
 use Rattle.attributes.specs.declared.attribute.FirstAttribute.{FirstAttribute}
+use Rattle.attributes.specs.declared.attribute.UnitNumber.{UnitNumber}
 use Rattle.attributes.specs.declared.units.EntryTypeUnit.{EntryTypeUnit}
 use Rattle.attributes.specs.Attributes.{noAttribute}
 use Rattle.attributes.specs.Meaning.{unitNumberIn, unitNumber, numberedUnit, numberedTypeUnit, compileUnitOf, typeUnitOf}
 use Rattle.attributes.specs.Sanity.{standsAs, stands}
-use Rattle.attributes.proofs.AttributeLaws.{NumberOrRefusal, no-number, some-number}
-use Rattle.records.specs.declared.unit.ShownUnit.{ShownUnit}
-use Rattle.records.specs.Units.{ofTypeUnit, asTypeUnit, typeShown, compileShown, defaultShown, _orNext_, entryUnit}
+use Rattle.attributes.proofs.AttributeLaws.{SomeOrRefused, no-number, some-number}
+use Rattle.records.specs.Units.{typeShown, compileShown, defaultShown, entryUnit}
 use Rattle.records.specs.Sanity.{AsTypeUnit, TypeUnitDecides, OtherNotResolved, compileUnitFirst, OneUnitAsBefore, UnitsComputed, UnitsSuppose}
-
--- the unit that the fact `type_unit` gives, or what comes next
-abbrev typeOr : Outcome EntryTypeUnit → Outcome ShownUnit → Outcome ShownUnit
-typeOr fact next = (fact >>= λ u. answered (asTypeUnit u)) orNext next
-
--- the fact decides, whatever comes next: it is a unit, or a refusal
-abbrev Decided : Outcome EntryTypeUnit → Type 0
-Decided fact =
-    ((u : NameTypeUnit) × (fact ≡ answered (EntryTypeUnit.Some u)) × ((next : Outcome ShownUnit) → typeOr fact next ≡ answered (ofTypeUnit u)))
-    ⊎ ((n v : ℕ) × (fact ≡ refused n v) × ((next : Outcome ShownUnit) → typeOr fact next ≡ refused n v))
 
 module _ (order : RunTimeEndian) (s : List ℕ) (i : NameIndex) where
   -- an attribute that the entry does not have names no unit
@@ -44,34 +34,34 @@ module _ (order : RunTimeEndian) (s : List ℕ) (i : NameIndex) where
   unfolding compileShown compileUnitOf numberedUnit
   no-compile-unit a h = rw (no-number a h)
 
-  -- a type_unit attribute that it has decides
-  decided : (a : FirstAttribute) → stands a ≡ true → Decided (typeUnitOf order s i a)
+  -- a type_unit attribute that it has names a unit, or is refused
+  some-type-unit : (a : FirstAttribute) → stands a ≡ true → SomeOrRefused EntryTypeUnit.Some (typeUnitOf order s i a)
   unfolding typeUnitOf numberedTypeUnit
-  decided a h = by-number (some-number a h)
+  some-type-unit a h = by-number (some-number a h)
     where
-      by-unit : (o : Outcome NameTypeUnit) → Decided (o >>= λ u. answered (EntryTypeUnit.Some u))
-      by-unit (answered u) = inl (u, refl, λ next. refl)
-      by-unit (refused n v) = inr (n, v, refl, λ next. refl)
+      by-unit : (o : Outcome NameTypeUnit) → SomeOrRefused EntryTypeUnit.Some (o >>= λ u. answered (EntryTypeUnit.Some u))
+      by-unit (answered u) = inl (u, refl)
+      by-unit (refused n v) = inr (n, v, refl)
 
-      by-number : NumberOrRefusal (unitNumber a) → Decided (unitNumber a >>= numberedTypeUnit order s i)
+      by-number : SomeOrRefused UnitNumber.Some (unitNumber a) → SomeOrRefused EntryTypeUnit.Some (unitNumber a >>= numberedTypeUnit order s i)
       by-number (inl (n, e)) = rw e (by-unit (typeUnit order s i n))
-      by-number (inr (n, v, e)) = rw e (inr (n, v, refl, λ next. refl))
+      by-number (inr (n, v, e)) = rw e (inr (n, v, refl))
 
 pub type-unit-decides : TypeUnitDecides
 unfolding entryUnit typeShown
-type-unit-decides order s i f h = by-unit (decided order s i (f .«type_unit») h)
+type-unit-decides order s i f h = by-unit (some-type-unit order s i (f .«type_unit») h)
   where
-    by-unit : Decided (typeUnitOf order s i (f .«type_unit»)) → AsTypeUnit (typeUnitOf order s i (f .«type_unit»)) (entryUnit order s i f)
-    by-unit (inl (u, e, shown)) = inl (u, e, shown _)
-    by-unit (inr (n, v, e, shown)) = inr (n, v, e, shown _)
+    by-unit : SomeOrRefused EntryTypeUnit.Some (typeUnitOf order s i (f .«type_unit»)) → AsTypeUnit (typeUnitOf order s i (f .«type_unit»)) (entryUnit order s i f)
+    by-unit (inl (u, e)) = inl (u, e, rw e)
+    by-unit (inr (n, v, e)) = inr (n, v, e, rw e)
 
 pub other-not-resolved : OtherNotResolved
 unfolding entryUnit typeShown
-other-not-resolved order s i f g h same = rw (← same) (by-unit (decided order s i (f .«type_unit») h) _ _)
+other-not-resolved order s i f g h same = by-unit (some-type-unit order s i (f .«type_unit») h)
   where
-    by-unit : {fact : Outcome EntryTypeUnit} → Decided fact → (next other : Outcome ShownUnit) → typeOr fact next ≡ typeOr fact other
-    by-unit (inl (u, e, shown)) next other = shown next ∙ sym (shown other)
-    by-unit (inr (n, v, e, shown)) next other = shown next ∙ sym (shown other)
+    by-unit : SomeOrRefused EntryTypeUnit.Some (typeUnitOf order s i (f .«type_unit»)) → entryUnit order s i f ≡ entryUnit order s i g
+    by-unit (inl (u, e)) = rw (← same, e)
+    by-unit (inr (n, v, e)) = rw (← same, e)
 
 pub one-unit-as-before : OneUnitAsBefore
 unfolding entryUnit compileUnitFirst
