@@ -2,7 +2,7 @@
  *
  * .debug_names is the DWARF 5 section (6.1.1) that says where the function or type of a name is described. Every function
  * below is proved to meet its contract (crates/debug_names): on any bytes, any numbers and any handles it ends, reads only
- * what it is lent, keeps nothing, and answers as document 01 says, or refuses with document 01's number and value.
+ * what it is lent, keeps nothing, and answers as documents 01 and 02 say, or refuses with document 01's number and value.
  *
  * What crosses:
  * - A section, a name and records are lent as a pointer to the first of them and their number. The pointer must be valid and aligned for
@@ -95,7 +95,7 @@ enum debug_names_parent_kind {
 enum debug_names_table_kind {
     DEBUG_NAMES_NO_TABLE = 0,
     DEBUG_NAMES_COMPLETE = 1,  /* a lookup by hash lists every name */
-    DEBUG_NAMES_INCOMPLETE = 2 /* the value is the number of names that are missed */
+    DEBUG_NAMES_INCOMPLETE = 2 /* some are missed: debug_names_table says how many, and which is the first */
 };
 
 /* An answer. */
@@ -176,6 +176,17 @@ typedef struct {
     debug_names_hash_cursor next;
 } debug_names_hash_step;
 
+/* What the table check says; the kind is of debug_names_table_kind. A name is missed where the run of its own bucket does not reach it.
+ * Where names are missed, `value` is how many, `name` the smallest of their numbers, and `hash` the hash that is stored for that name;
+ * debug_names_name_string gives its string. Else `name` and `hash` are 0, and so is `value`, but for that of a refusal. */
+typedef struct {
+    uint32_t status;
+    uint32_t kind;
+    uint64_t value;
+    uint32_t name;
+    uint32_t hash;
+} debug_names_table;
+
 /* The five facts of an entry. Each is an answer of its own: kind 0 where the entry has no attribute of that name. The units' kinds are
  * those of debug_names_unit_kind, the parent's those of debug_names_parent_kind. */
 typedef struct {
@@ -216,9 +227,11 @@ typedef struct {
 #if defined(__cplusplus)
 static_assert(sizeof(debug_names_record) == 32, "a record has 32 bytes on x86-64");
 static_assert(sizeof(debug_names_index) == 48, "an index has 48 bytes on x86-64");
+static_assert(sizeof(debug_names_table) == 24, "a table check has 24 bytes on x86-64");
 #elif defined(__STDC_VERSION__) && __STDC_VERSION__ >= 201112L
 _Static_assert(sizeof(debug_names_record) == 32, "a record has 32 bytes on x86-64");
 _Static_assert(sizeof(debug_names_index) == 48, "an index has 48 bytes on x86-64");
+_Static_assert(sizeof(debug_names_table) == 24, "a table check has 24 bytes on x86-64");
 #endif
 
 /* ---- Opening a section */
@@ -283,8 +296,8 @@ debug_names_hash_step debug_names_find_by_hash(
 /* The next name that stores the hash. */
 debug_names_hash_step debug_names_next_by_hash(
     uint32_t order, const uint8_t *section, size_t section_len, debug_names_index index, debug_names_hash_cursor cursor);
-/* Whether lookups by hash list every name; the kind is of debug_names_table_kind. */
-debug_names_answer debug_names_check_table(
+/* Whether lookups by hash list every name; where they do not, how many names they miss, and the first of these. */
+debug_names_table debug_names_check_table(
     uint32_t order, const uint8_t *section, size_t section_len, debug_names_index index);
 
 /* ---- Entries */

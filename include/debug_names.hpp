@@ -155,10 +155,22 @@ enum class table_kind : std::uint32_t {
     incomplete = DEBUG_NAMES_INCOMPLETE,
 };
 
-// What the table check says; `missed` is the number of names that lookups by hash do not list.
+// What the table check says: `missed` is the number of names that lookups by hash do not list, `name` the smallest of their numbers, and
+// `hash` the hash that is stored for that name. All three are 0 where no name is missed.
 struct table {
     table_kind kind = table_kind::none;
     std::uint64_t missed = 0;
+    std::uint32_t name = 0;
+    std::uint32_t hash = 0;
+};
+
+// What lookups by hash miss: how many names, and of the one with the smallest number that number, the hash that is stored for it, and its
+// string, or why that cannot be read.
+struct lost_name {
+    std::uint64_t missed = 0;
+    std::uint32_t number = 0;
+    std::uint32_t hash = 0;
+    result<std::string_view> string{};
 };
 
 // A name of a bucket: its number, and the hash that is stored for it.
@@ -186,7 +198,7 @@ constexpr result<std::optional<std::uint64_t>> number_or_none(const debug_names_
     return std::optional<std::uint64_t>(answer.value);
 }
 
-// A kind with its value: a unit, a parent or a table.
+// A kind with its value: a unit or a parent.
 template <class Pair, class Kind>
 constexpr result<Pair> pair(const debug_names_answer& answer) noexcept {
     if (answer.status != DEBUG_NAMES_OK) return why(answer);
@@ -396,7 +408,22 @@ public:
     // strings: compare these. Refused as `find_by_bucket` is for the hash's bucket; so with 1 where there is no hash table.
     inline steps<detail::hash_walk> find_by_hash(std::uint32_t hash) const noexcept;
     // Whether lookups by hash list every name. Refused with 1 where a bucket starts past the last name.
-    result<table> check_table() const noexcept { return detail::pair<table, table_kind>(ask(debug_names_check_table)); }
+    result<table> check_table() const noexcept {
+        const debug_names_table said = ask(debug_names_check_table);
+        if (said.status != DEBUG_NAMES_OK) return detail::why(said);
+        return table{static_cast<table_kind>(said.kind), said.value, said.name, said.hash};
+    }
+    // The same for a person to start from: the missed name of the smallest number, with its string; none where the table is complete, and
+    // where there is no table. Refused as `check_table` is. A string that cannot be read is a refusal inside, so that number and hash are
+    // told all the same.
+    result<std::optional<debug_names::lost_name>> lost_name(bytes strings) const noexcept {
+        const result<table> check = check_table();
+        if (!check) return check.why();
+        std::optional<debug_names::lost_name> lost;
+        if (check->kind == table_kind::incomplete)
+            lost = {check->missed, check->name, check->hash, name_string(strings, check->name)};
+        return lost;
+    }
 
     // ---- Entries
 

@@ -17,7 +17,7 @@ pub mod work;
 /// The table check: how many names are missed.
 pub fn missed(index: &Index) -> Result<u64, Error> {
     Ok(match index.check_table()? {
-        TableCheck::Incomplete(count) => count,
+        TableCheck::Incomplete(table) => table.missed.into(),
         TableCheck::Complete | TableCheck::NoTable => 0,
     })
 }

@@ -6,7 +6,7 @@
 
 use crate::error::{Error, Result};
 use crate::ffi;
-use crate::ffi::{Answer, BucketStep, Entry, HashCursor, HashStep, Header, HeaderStep, IndexHandle, Record, Str};
+use crate::ffi::{Answer, BucketStep, Entry, HashCursor, HashStep, Header, HeaderStep, IndexHandle, Record, Str, Table};
 
 /// A section of `.debug_names`, in a byte order: 0 is little, 1 is big.
 #[derive(Debug, Clone, Copy)]
@@ -45,7 +45,7 @@ macro_rules! outcomes {
         })+
     };
 }
-outcomes!(Answer, BucketStep, Entry, HashStep, Header, HeaderStep, Str);
+outcomes!(Answer, BucketStep, Entry, HashStep, Header, HeaderStep, Str, Table);
 
 /// The next header, from a cursor.
 #[inline]
@@ -86,7 +86,7 @@ index_calls! {
     next_in_bucket: debug_names_next_in_bucket(bucket: u32, name: u32) -> BucketStep;
     find_by_hash: debug_names_find_by_hash(hash: u32) -> HashStep;
     next_by_hash: debug_names_next_by_hash(cursor: HashCursor) -> HashStep;
-    check_table: debug_names_check_table() -> Answer;
+    check_table: debug_names_check_table() -> Table;
     name_entries: debug_names_name_entries(name: u32) -> Answer;
     next_entry: debug_names_next_entry(at: usize) -> Entry;
     name_entry: debug_names_name_entry(offset: usize) -> Entry;

@@ -88,6 +88,17 @@ pub struct HashStep {
     pub next: HashCursor,
 }
 
+/// What the table check says.
+#[repr(C)]
+#[derive(Clone, Copy, Debug, Default, PartialEq, Eq)]
+pub struct Table {
+    pub status: u32,
+    pub kind: u32,
+    pub value: u64,
+    pub name: u32,
+    pub hash: u32,
+}
+
 /// The five facts of an entry.
 #[repr(C)]
 #[derive(Clone, Copy, Debug, Default, PartialEq, Eq)]
@@ -128,6 +139,7 @@ pub struct Record {
 
 const _: () = assert!(size_of::<Record>() == 32);
 const _: () = assert!(size_of::<IndexHandle>() == 48);
+const _: () = assert!(size_of::<Table>() == 24);
 
 #[rustfmt::skip]
 unsafe extern "C" {
@@ -157,7 +169,7 @@ unsafe extern "C" {
     pub fn debug_names_next_in_bucket(order: u32, section: *const u8, section_len: usize, index: IndexHandle, bucket: u32, name: u32) -> BucketStep;
     pub fn debug_names_find_by_hash(order: u32, section: *const u8, section_len: usize, index: IndexHandle, hash: u32) -> HashStep;
     pub fn debug_names_next_by_hash(order: u32, section: *const u8, section_len: usize, index: IndexHandle, cursor: HashCursor) -> HashStep;
-    pub fn debug_names_check_table(order: u32, section: *const u8, section_len: usize, index: IndexHandle) -> Answer;
+    pub fn debug_names_check_table(order: u32, section: *const u8, section_len: usize, index: IndexHandle) -> Table;
 
     pub fn debug_names_name_entries(order: u32, section: *const u8, section_len: usize, index: IndexHandle, name: u32) -> Answer;
     pub fn debug_names_next_entry(order: u32, section: *const u8, section_len: usize, index: IndexHandle, at: usize) -> Entry;

@@ -37,8 +37,8 @@
 //!   [`Error::number`], [`Error::value`] and [`Error::name`] are added.
 //! - LEB128 numbers may be padded to any length. gimli refuses one whose tenth byte, or third where it has 16 bits, has the continuation
 //!   bit.
-//! - Added are [`DebugNames::query`], the search in all indexes of a section, and [`NameIndex::check_table`], which says whether a
-//!   lookup by hash can miss a name.
+//! - Added are [`DebugNames::query`], the search in all indexes of a section, [`NameIndex::check_table`], which says whether a lookup
+//!   by hash can miss a name, and [`NameIndex::lost_name`], the first name that is missed, with its string.
 //!
 //! Computing the hash of a name is left to the caller, as in gimli.
 

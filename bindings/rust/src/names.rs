@@ -178,8 +178,32 @@ pub enum TableCheck {
     NoTable,
     /// A lookup by hash lists every name.
     Complete,
-    /// So many names are missed.
-    Incomplete(u64),
+    /// Some names are missed.
+    Incomplete(Incomplete),
+}
+
+/// What lookups by hash miss; not in gimli.
+#[derive(Debug, Clone, Copy, PartialEq, Eq)]
+pub struct Incomplete {
+    /// How many names are missed: the run of their own bucket does not reach them.
+    pub missed: u32,
+    /// The smallest of their numbers.
+    pub name: NameTableIndex,
+    /// The hash that is stored for that name.
+    pub hash: u32,
+}
+
+/// What lookups by hash miss, with the first name's string; not in gimli.
+#[derive(Debug, Clone, Copy, PartialEq, Eq)]
+pub struct LostName<'a> {
+    /// How many names are missed.
+    pub missed: u32,
+    /// The smallest of their numbers.
+    pub name: NameTableIndex,
+    /// The hash that is stored for that name.
+    pub hash: u32,
+    /// Its string, without its zero byte: the caller's own bytes of `.debug_str`, or why it cannot be read.
+    pub string: Result<&'a [u8]>,
 }
 
 /// A single name index from the section.
@@ -295,7 +319,20 @@ impl<'a> NameIndex<'a> {
         Ok(match check.kind {
             0 => TableCheck::NoTable,
             1 => TableCheck::Complete,
-            _ => TableCheck::Incomplete(check.value),
+            _ => TableCheck::Incomplete(Incomplete { missed: check.value as u32, name: NameTableIndex(check.name), hash: check.hash }),
+        })
+    }
+
+    /// The same for a person to start from: the missed name of the smallest number, with its string; `Ok(None)` if lookups by hash list
+    /// every name or there is no hash table. Not in gimli.
+    ///
+    /// A string that cannot be read is an error inside, so that number and hash are told all the same.
+    pub fn lost_name<'s>(&self, debug_str: &DebugStr<'s>) -> Result<Option<LostName<'s>>> {
+        Ok(match self.check_table()? {
+            TableCheck::NoTable | TableCheck::Complete => None,
+            TableCheck::Incomplete(Incomplete { missed, name, hash }) => {
+                Some(LostName { missed, name, hash, string: self.name_string(name, debug_str) })
+            }
         })
     }
 

@@ -1,4 +1,5 @@
-//! Document 01's case A, and document 02's entries with two units. The expected values are worked out by hand from these documents.
+//! Document 01's case A, and document 02's lost names and entries with two units. The expected values are worked out by hand from these
+//! documents.
 
 use crate::calls::{self, Outcome, Section};
 use crate::ffi;
@@ -56,6 +57,11 @@ fn index(bytes: &[u8]) -> NameIndex<'_> {
 
 fn eof<T>(place: u64) -> Result<T> {
     Err(Error::UnexpectedEof(ReaderOffsetId(place)))
+}
+
+/// An incomplete table: how many names are missed, and the first of them with its hash.
+fn incomplete(missed: u32, name: u32, hash: u32) -> Result<TableCheck> {
+    Ok(TableCheck::Incomplete(Incomplete { missed, name: NameTableIndex(name), hash }))
 }
 
 fn names_of_hash(index: &NameIndex, hash: u32) -> Vec<u32> {
@@ -183,9 +189,43 @@ fn names_of_buckets() {
 fn table() {
     let check = |second| index(&with_starts(1, second)).check_table();
     assert_eq!(check(2), Ok(TableCheck::Complete));
-    assert_eq!(check(3), Ok(TableCheck::Incomplete(1)));
-    assert_eq!(check(4), Ok(TableCheck::Incomplete(2)));
+    assert_eq!(check(3), incomplete(1, 1, 7));
+    assert_eq!(check(4), incomplete(2, 1, 7));
     assert_eq!(check(5), eof(48));
+}
+
+/// Name 0, of bucket 1, and name 1, of bucket 0, are missed: the first by its number is not that of the lowest bucket.
+#[test]
+fn smallest_number_is_not_in_the_lowest_bucket() {
+    let case = CaseA { buckets: vec![0, 3], hashes: vec![7, 4, 9], ..CaseA::new(RunTimeEndian::Little) };
+    let bytes = case.bytes();
+    let index = index(&bytes);
+    assert_eq!(names_of_bucket(&index, 0), []);
+    assert_eq!(names_of_bucket(&index, 1), [(2, 9)]);
+    assert_eq!(index.check_table(), incomplete(2, 0, 7));
+    assert_eq!(index.lost_name(&strings()), Ok(Some(LostName { missed: 2, name: NameTableIndex(0), hash: 7, string: Ok(b"abc") })));
+}
+
+/// The hash is the stored one with all its 32 bits, not the number of its bucket.
+#[test]
+fn hash_of_a_lost_name() {
+    for order in [RunTimeEndian::Little, RunTimeEndian::Big] {
+        let bytes = CaseA { buckets: vec![1, 3], hashes: vec![4, 0x8765_4321, 9], ..CaseA::new(order) }.bytes();
+        let header = DebugNames::new(&bytes, order).headers().next().unwrap().unwrap();
+        assert_eq!(header.index().unwrap().check_table(), incomplete(1, 1, 0x8765_4321));
+    }
+}
+
+#[test]
+fn lost_names() {
+    let lost = |second, strings: DebugStr<'static>| index(&with_starts(1, second)).lost_name(&strings);
+    let name_1 = |missed, string| Ok(Some(LostName { missed, name: NameTableIndex(1), hash: 7, string }));
+    assert_eq!(lost(2, strings()), Ok(None));
+    assert_eq!(lost(3, strings()), name_1(1, Ok(b"de")));
+    assert_eq!(lost(4, strings()), name_1(2, Ok(b"de")));
+    assert_eq!(lost(5, strings()), eof(48));
+    // Its string has no zero byte: number and hash are told all the same.
+    assert_eq!(lost(3, DebugStr::new(&STRINGS[..7], LittleEndian)), name_1(1, eof(5)));
 }
 
 #[test]
@@ -195,6 +235,7 @@ fn no_table() {
     let index = index(&bytes);
     assert!(!index.has_hash_table());
     assert_eq!(index.check_table(), Ok(TableCheck::NoTable));
+    assert_eq!(index.lost_name(&strings()), Ok(None));
     assert!(matches!(index.find_by_hash(4), Err(Error::UnexpectedEof(ReaderOffsetId(40)))));
 }
 
@@ -354,6 +395,7 @@ fn does_not_fit() {
     let handle = calls::next_header(section, 0).index;
     let cut = Section { bytes: &bytes[..100], order: 0 };
     assert_eq!(calls::open(cut, handle).check(), Err(Error::DoesNotFit));
+    assert_eq!(calls::check_table(cut, handle), ffi::Table { status: 14, ..ffi::Table::default() });
     let no_format = ffi::IndexHandle { format: 5, ..handle };
     assert_eq!(calls::open(section, no_format).check(), Err(Error::DoesNotFit));
 }

@@ -10,7 +10,6 @@ use Rattle.index.specs.declared.layout.NameIndex.{NameIndex}
 use Rattle.names.specs.declared.units.NameTypeUnit.{NameTypeUnit}
 use Rattle.names.specs.declared.units.DefaultUnit.{DefaultUnit}
 use Rattle.hashes.specs.declared.bucket.BucketIter.{BucketIter}
-use Rattle.tables.specs.Check.{Checked, no-table, complete, incomplete}
 use Rattle.entries.specs.declared.series.NameEntryIter.{NameEntryIter}
 use Rattle.answers.specs.declared.Answer.{Answer}
 
@@ -66,12 +65,6 @@ strOffsetAnswer o = given 1 (o .0)
 abbrev pub bucketAnswer : BucketIter → Answer
 bucketAnswer (BucketIter.Some c) = given 1 (c .«name_table_index» .0)
 bucketAnswer BucketIter.None = nothing
-
--- the table check
-abbrev pub checkAnswer : Checked → Answer
-checkAnswer no-table = given 0 0
-checkAnswer complete = given 1 0
-checkAnswer (incomplete missed) = given 2 missed
 
 -- the place of a name's first entry
 abbrev pub entriesAnswer : NameEntryIter → Answer

@@ -6,10 +6,9 @@ ghost use Rattle.reader.specs.Errors.{numberOf, valueOf};
 ghost use Rattle.index.specs.Answers.{indexOutcome};
 ghost use Rattle.names.specs.Answers.{countOutcome, flagOutcome, unitOutcome, signatureOutcome, typeUnitOutcome, defaultUnitOutcome, strOffsetOutcome};
 ghost use Rattle.hashes.specs.Answers.{bucketOutcome};
-ghost use Rattle.tables.specs.Check.{checkOutcome};
 ghost use Rattle.entries.specs.Answers.{entriesOutcome};
 ghost use Rattle.query_plan.specs.Answers.{queryOutcome};
-ghost use Rattle.answers.specs.Answers.{refusedAnswer, handed, openAnswer, countAnswer, flagAnswer, unitAnswer, signatureAnswer, typeUnitAnswer, defaultUnitAnswer, strOffsetAnswer, bucketAnswer, checkAnswer, entriesAnswer};
+ghost use Rattle.answers.specs.Answers.{refusedAnswer, handed, openAnswer, countAnswer, flagAnswer, unitAnswer, signatureAnswer, typeUnitAnswer, defaultUnitAnswer, strOffsetAnswer, bucketAnswer, entriesAnswer};
 use entries::EntriesRead;
 use hashes::BucketIter;
 use hashes::BucketRead;
@@ -25,7 +24,6 @@ use names::TypeUnitRead;
 use names::UnitRead;
 use query_plan::QueryRead;
 use reader::Error;
-use tables::TableCheck;
 
 // An answer: status 0, what is answered, and its number; or the refusal's number, kind 0, and its value.
 #[repr(C)]
@@ -196,30 +194,6 @@ pub fn bucket_answer(r: BucketRead) -> Answer
             kind: 0,
             value: 0,
         },
-    }
-}
-
-// What the table check says: kind 0 no table, 1 complete, 2 incomplete with the number of names that are missed.
-pub fn check_answer(r: TableCheck) -> Answer
-    ensures { λ a. ⌜ a ≡ handed checkAnswer (checkOutcome r) ⌝ }
-{
-    match r {
-        TableCheck::NoTable => Answer {
-            status: 0,
-            kind: 0,
-            value: 0,
-        },
-        TableCheck::Complete => Answer {
-            status: 0,
-            kind: 1,
-            value: 0,
-        },
-        TableCheck::Incomplete(n) => Answer {
-            status: 0,
-            kind: 2,
-            value: n.missed as u64,
-        },
-        TableCheck::Refused(e) => refused(e),
     }
 }
 

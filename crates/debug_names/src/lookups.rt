@@ -3,11 +3,10 @@ ghost use mathlib.Core.Path.{_≡_};
 ghost use Rattle.hashes.specs.Lookups.{bucketCursor, findByBucket, findByHash, bucketStep, hashStep};
 ghost use Rattle.tables.specs.Check.{tableCheck};
 ghost use Rattle.handles.specs.Handles.{orderOf, indexFrom, iterFrom};
-ghost use Rattle.answers.specs.Answers.{handed, bucketAnswer, checkAnswer};
-ghost use Rattle.step_answers.specs.Steps.{bucketStepAnswer, hashAnswer, hashStepAnswer};
+ghost use Rattle.answers.specs.Answers.{handed, bucketAnswer};
+ghost use Rattle.step_answers.specs.Steps.{bucketStepAnswer, hashAnswer, hashStepAnswer, tableAnswer};
 use answers::Answer;
 use answers::bucket_answer;
-use answers::check_answer;
 use handles::HashCursor;
 use handles::IndexHandle;
 use handles::index_of;
@@ -19,9 +18,11 @@ use hashes::find_by_hash;
 use reader::NameTableIndex;
 use step_answers::BucketAnswer;
 use step_answers::HashAnswer;
+use step_answers::TableAnswer;
 use step_answers::bucket_step_answer;
 use step_answers::hash_answer;
 use step_answers::hash_step_answer;
+use step_answers::table_answer;
 use tables::check_table;
 
 // The first name of a bucket, or none.
@@ -82,10 +83,14 @@ pub extern "C" fn debug_names_next_by_hash(
     hash_step_answer(at.next(order_of(order), section, index_of(index)))
 }
 
-// Whether lookups by hash list every name.
+// Whether lookups by hash list every name, and where they do not, the smallest number of a name that is missed.
 #[no_mangle]
-pub extern "C" fn debug_names_check_table(order: u32, section: &[u8], index: IndexHandle) -> Answer
-    ensures { λ r. ⌜ r ≡ handed checkAnswer (tableCheck (orderOf order) (now (section .entry)) (indexFrom index)) ⌝ }
+pub extern "C" fn debug_names_check_table(
+    order: u32,
+    section: &[u8],
+    index: IndexHandle,
+) -> TableAnswer
+    ensures { λ r. ⌜ r ≡ tableAnswer (tableCheck (orderOf order) (now (section .entry)) (indexFrom index)) ⌝ }
 {
-    check_answer(check_table(order_of(order), section, index_of(index)))
+    table_answer(check_table(order_of(order), section, index_of(index)))
 }

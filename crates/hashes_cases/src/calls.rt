@@ -214,14 +214,17 @@ fn position(c: NameBucketIter) {
     number(b"/", c.bucket_index as u64);
 }
 
-// The table check.
+// The table check: of an incomplete table the number of missed names, the smallest of their numbers, and the hash of that name.
 fn check(order: RunTimeEndian, s: &[u8], i: NameIndex) {
     show::text(b"check:");
     match check_table(order, s, i) {
         TableCheck::NoTable => show::text(b" ok no table\n"),
         TableCheck::Complete => show::text(b" ok complete\n"),
         TableCheck::Incomplete(found) => {
+            let name = found.name;
             number(b" ok missed ", found.missed as u64);
+            number(b" name ", name.0 as u64);
+            number(b" hash ", found.hash as u64);
             show::text(b"\n");
         }
         TableCheck::Refused(e) => show::refused(e),

@@ -1,6 +1,6 @@
-// Document 01's cases for buckets, hashes and the table check ("Buckets and hashes", and refusal 14 of "Why a call says no"): for each
-// case a line that says what it is, and a line for each lookup with its steps and for the check. The file stdout beside src/ has what
-// document 01 says, worked out from its words and the numbers below.
+// Document 01's cases for buckets, hashes and the table check ("Buckets and hashes", and refusal 14 of "Why a call says no"), and those of
+// document 02, No. 2, for the names that a table loses: for each case a line that says what it is, and a line for each lookup with its steps
+// and for the check. The file stdout beside src/ has what the documents say, worked out from their words and the numbers below.
 mod calls; // lookups, steps and the check, a line for each
 mod cases; // a case and its answers
 mod line; // the numbers in a line of text
@@ -32,6 +32,15 @@ fn main() {
         L32 the shortest interrupted run; starts 1 2; hashes 0 1 2; find 2\n\
         L32 the shortest table in which a step goes on after an end; starts 1 0; hashes 1 0; find 0 1\n\
         L32 a name in the run of another bucket; starts 0 1; hashes 0; find 0\n",
+    );
+    // Tables that lose names (document 02, No. 2): the smallest number among them, whose bucket need not be the lowest, and its whole hash.
+    cases::lines(
+        b"L32 the smallest number in the highest bucket; starts 0 0 0; hashes 5 4 3; find 5\n\
+        L32 names lost in two buckets, in the lower one later; starts 0 1 0; hashes 4 5 3 6; find 4 5 6\n\
+        L32 the last name alone lost; starts 1 0; hashes 2 4 6 3; find 6 3\n\
+        L32 of two equal hashes the second lost; starts 1 2; hashes 4 5 4; find 4\n\
+        L32 the largest hashes, one lost; starts 0 1; hashes 4294967295 7 4294967294; find 4294967295 4294967294\n\
+        B64 the order of a lost hash's bytes; starts 1 0 0 0; hashes 16909060 67305985; find 67305985\n",
     );
     // A start of 0 is an empty bucket, N+1 is taken, and a larger one is refused at the hashes. Without buckets the first start is
     // missing at 0.

@@ -10,11 +10,12 @@ use Rattle.tables.specs.Check.{Checked, no-table, complete, incomplete, tableCh
 use Rattle.listing.specs.declared.index_line.Missed.{Missed}
 use Rattle.listing.specs.declared.index_line.Opened.{Opened}
 
--- how many names are missed, by what the table check says; none without a hash table
+-- how many names are missed, by what the table check says; without a hash table there is no such number. The name and the hash of an incomplete
+-- answer are not printed (document 02, No. 2).
 abbrev pub missedBy : Checked → Missed
 missedBy no-table = Missed.None
 missedBy complete = Missed.Some 0
-missedBy (incomplete n) = Missed.Some n
+missedBy (incomplete lost) = Missed.Some (lost .missed)
 
 unfoldable pub missedIn : RunTimeEndian → List ℕ → NameIndex → Outcome Missed
 missedIn order s i = do

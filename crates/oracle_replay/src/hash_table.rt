@@ -271,8 +271,11 @@ fn table(order: RunTimeEndian, s: &[u8], index: NameIndex, t: &mut Tally) {
         TableCheck::NoTable => show::text(b" none\n"),
         TableCheck::Complete => show::text(b" complete\n"),
         TableCheck::Incomplete(i) => {
+            let name = i.name;
             show::text(b" missed");
-            line::answered(i.missed as u64)
+            line::number(i.missed as u64);
+            line::number(name.0 as u64);
+            line::answered(i.hash as u64)
         }
         TableCheck::Refused(e) => tally::refused(t, e),
     }

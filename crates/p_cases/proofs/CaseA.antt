@@ -34,7 +34,7 @@ use Rattle.tables.specs.Check.{startAbove, anyAbove, isMissed, missedNames, ver
 use Rattle.listing.specs.Names.{nameHash, entryCount, nameLine}
 use Rattle.listing.specs.Indexes.{missedIn, openedIndex}
 use Rattle.listing.specs.Lines.{nameLines, headerLines, sectionLines}
-use Rattle.p_cases.specs.CaseA.{caseA, stringsA, headerA, indexA, partsA, HeaderOfA, OpensA, PartsOfA, FitsA, UnitsOfA, StringsOfA, BytesOfA, AbbreviationsOfA, CursorsOfA, SeriesOfA, StepsOfA, FactsOfA, BucketsOfA, RunsOfA, BucketStepsOfA, HashOfA, HashStepsOfA, LentA, ListingOfA}
+use Rattle.p_cases.specs.CaseA.{caseA, secondStart, stringsA, headerA, indexA, partsA, HeaderOfA, OpensA, PartsOfA, FitsA, UnitsOfA, StringsOfA, BytesOfA, AbbreviationsOfA, CursorsOfA, SeriesOfA, StepsOfA, FactsOfA, BucketsOfA, RunsOfA, BucketStepsOfA, HashOfA, HashStepsOfA, LentA, ListingOfA}
 
 pub header-of-a : HeaderOfA
 unfolding caseA headerA header headerCut headerBody counts augmentation initialLength readNumber skipped cut spelled digits
@@ -123,5 +123,5 @@ unfolding caseA indexA allBelow
 lent-a = (bytes-below caseA refl, omega arith)
 
 pub listing-of-a : ListingOfA
-unfolding caseA sectionLines headerLines nameLines nameLine nameHash entryCount counted openedIndex missedIn headersFrom headerAt header headerCut headerBody counts augmentation initialLength readNumber skipped cut spelled digits nameIndex indexOf cutParts passedOver parts place placesFrom sizes wordBytes hashBytes longest parsed ending table listing declaration withAttributes head attributes attributesIn pair leb128 numberOfBytes numberBytes complete base128 series seriesStart seriesEntry entriesFrom nthWord entry values kept noAttribute first formValue asFlag asUnsigned asOffset readByte find fitted nthOf storedStart storedHash bucketOf namesFrom runFrom fromStart run numbersFrom filterb takeWhile memberb numberAt startAbove anyAbove isMissed missedNames verdict tableCheck nameStringOffset
-listing-of-a = refl
+unfolding caseA secondStart sectionLines headerLines nameLines nameLine nameHash entryCount counted openedIndex missedIn headersFrom headerAt header headerCut headerBody counts augmentation initialLength readNumber skipped cut spelled digits nameIndex indexOf cutParts passedOver parts place placesFrom sizes wordBytes hashBytes longest parsed ending table listing declaration withAttributes head attributes attributesIn pair leb128 numberOfBytes numberBytes complete base128 series seriesStart seriesEntry entriesFrom nthWord entry values kept noAttribute first formValue asFlag asUnsigned asOffset readByte find fitted nthOf storedStart storedHash bucketOf namesFrom runFrom fromStart run numbersFrom filterb takeWhile memberb numberAt startAbove anyAbove isMissed missedNames verdict tableCheck nameStringOffset
+listing-of-a = (refl, refl)

@@ -244,14 +244,15 @@ HashStepsOfA = Linked hashStepOf (hashStep RunTimeEndian.Little caseA indexA) (h
 abbrev pub LentA : Type 0
 LentA = Bytes caseA × (indexA .«bucket_count» < 2 ^ 32)
 
--- the five lines of its listing, as document 01 has them
+-- the five lines of its listing, as document 01 has them, with a number of missed names
 abbrev pub nameLineOf : ℕ → ℕ → ℕ → Line
 nameLineOf number hash string = Line.Name (record { name = record { 0 = number }; hash = NameHash.Some hash; string = record { 0 = string }; entries = 1 })
 
-abbrev pub linesA : Listing Line
-linesA =
-    item (Line.Index (record { place = record { 0 = 0 }; «name_count» = 3; «bucket_count» = 2; missed = Missed.Some 0 }))
+abbrev pub linesMissing : ℕ → Listing Line
+linesMissing missed =
+    item (Line.Index (record { place = record { 0 = 0 }; «name_count» = 3; «bucket_count» = 2; missed = Missed.Some missed }))
     (item (nameLineOf 0 4 1) (item (nameLineOf 1 7 5) (item (nameLineOf 2 9 6) (item (Line.Indexes 1) ended))))
 
+-- where a table loses names, the line has their number alone (document 02, No. 2)
 abbrev pub ListingOfA : Type 0
-ListingOfA = sectionLines RunTimeEndian.Little caseA ≡ linesA
+ListingOfA = (sectionLines RunTimeEndian.Little caseA ≡ linesMissing 0) × (sectionLines RunTimeEndian.Little (secondStart 4) ≡ linesMissing 2)

@@ -1,5 +1,5 @@
 -- Document 01, "Bytes to try": the cases marked P, as a computed list of the definitions. `given` is what the definitions say,
--- `expected` what document 01 says.
+-- `expected` what document 01 says, and document 02 (No. 2) of the name that an incomplete table loses.
 use Prim.Native.Nat.{ℕ}
 use mathlib.Core.Path.{_≡_}
 use mathlib.Core.List.{List, [], _∷_, _++_}
@@ -14,6 +14,7 @@ use Rattle.hashes.specs.Table.{namesOfHash}
 use Rattle.tables.specs.Check.{Checked, complete, incomplete, tableCheck}
 use Rattle.query_plan.specs.Plans.{Queried}
 use Rattle.p_cases.specs.CaseA.{caseA, indexA, secondStart}
+use Rattle.p_cases.specs.Lost.{lostOne, lostTwo}
 use Rattle.p_cases.specs.Queries.{queryOfA, foundInA}
 
 -- what a case asks for
@@ -63,8 +64,9 @@ given =
     ∷ []
 
 -- nine ff then 01 is 2^64-1, then 02 is 7; as u16, ff ff 03 is 65535, ff ff 04 is 7; entry 5 is 10; entry 18 is 1 at 109; entry 19
--- is 1 at 91; hash 4 lists 0; 9 lists 2; 6 lists none; missed is 0 (complete); second start 3 makes it 1, 4 makes it 2, 5 refuses 1 at 48; the
--- query (7, "de") has total 1 and the record 0, 6, name 1, tag 0x2e, kind 1, value 0, DIE 0x20
+-- is 1 at 91; hash 4 lists 0; 9 lists 2; 6 lists none; missed is 0 (complete); second start 3 makes it 1 and 4 makes it 2, in both with 1 as
+-- the smallest missed name and 7 as its hash; 5 refuses 1 at 48; the query (7, "de") has total 1 and the record 0, 6, name 1, tag 0x2e, kind 1,
+-- value 0, DIE 0x20
 abbrev pub expected : List Answer
 expected =
     number (answered (record { value = 18446744073709551615; next = 10 }))
@@ -78,8 +80,8 @@ expected =
     ∷ names (2 ∷ [])
     ∷ names []
     ∷ check (answered complete)
-    ∷ check (answered (incomplete 1))
-    ∷ check (answered (incomplete 2))
+    ∷ check (answered (incomplete lostOne))
+    ∷ check (answered (incomplete lostTwo))
     ∷ check (refused 1 48)
     ∷ query foundInA
     ∷ []

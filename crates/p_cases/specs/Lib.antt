@@ -1,4 +1,5 @@
 pub mod Cases
 pub mod CaseA
+pub mod Lost
 pub mod Queries
 pub mod Split

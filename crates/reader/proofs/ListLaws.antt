@@ -2,7 +2,7 @@
 use Prim.Native.Nat.{ℕ, zero, suc, _+_, _-_, _≤_, _<_}
 use mathlib.Core.Path.{_≡_, refl, sym, ap}
 use mathlib.Core.Bool.{Bool, true, false, cond}
-use mathlib.Core.List.{List, [], _∷_}
+use mathlib.Core.List.{List, [], _∷_, _++_}
 use native.Mathlib.Omega.{arith}
 use lib.ListN.{length, take}
 use lib.Dec.{ltb, eqb}
@@ -112,6 +112,17 @@ filter-member test n (m ∷ ms) holds h = chosen (eqb n m) refl (filter-member t
         rw (here, e)
     chosen false e more h = taken (test m) refl (more h)
 
+-- and the test holds for whatever is taken
+pub member-holds : (test : ℕ → Bool) (n : ℕ) (l : List ℕ) → memberb n (filterb test l) ≡ true → test n ≡ true
+unfolding filterb memberb
+member-holds test n [] h = absurd (false-true h)
+member-holds test n (m ∷ ms) h = chosen (test m) (eqb n m) refl refl (member-holds test n ms) h
+  where
+    chosen : (t u : Bool) → test m ≡ t → eqb n m ≡ u → (memberb n (filterb test ms) ≡ true → test n ≡ true) → memberb n (cond t (m ∷ filterb test ms) (filterb test ms)) ≡ true → test n ≡ true
+    chosen true true holds same more h = rw (eqb-true n m same) holds
+    chosen true false holds other more h = more (rw other at h)
+    chosen false u fails e more h = more h
+
 -- a number at or past a that is not a is past it
 pub past-other : (m a : ℕ) → a ≤ m → (m ≡ a → ⊥) → a + 1 ≤ m
 past-other m a above other = by-order (ltb a m) refl
@@ -129,6 +140,59 @@ member-numbers m a (suc k) above below = chosen (eqb m a) refl (λ h. member-num
     chosen : (t : Bool) → eqb m a ≡ t → (a + 1 ≤ m → memberb m (numbersFrom (a + 1) k) ≡ true) → cond t true (memberb m (numbersFrom (a + 1) k)) ≡ true
     chosen true e more = refl
     chosen false e more = more (past-other m a above (eqb-false m a e))
+
+pub numbers-member : (m a k : ℕ) → memberb m (numbersFrom a k) ≡ true → (a ≤ m) × (m < a + k)
+unfolding numbersFrom memberb
+numbers-member m a zero h = absurd (false-true h)
+numbers-member m a (suc k) h = chosen (eqb m a) refl (numbers-member m (a + 1) k) h
+  where
+    chosen : (t : Bool) → eqb m a ≡ t → (memberb m (numbersFrom (a + 1) k) ≡ true → (a + 1 ≤ m) × (m < (a + 1) + k)) → cond t true (memberb m (numbersFrom (a + 1) k)) ≡ true → (a ≤ m) × (m < a + suc k)
+    chosen true e more h = let here = eqb-true m a e in (omega arith, omega arith)
+    chosen false e more h = let (above, below) = more h in (omega arith, omega arith)
+
+-- what a test takes of one number more: what it takes of those before, and then the last, if the test holds for it
+pub filter-last : (test : ℕ → Bool) (a k : ℕ) → filterb test (numbersFrom a (suc k)) ≡ filterb test (numbersFrom a k) ++ cond (test (a + k)) ((a + k) ∷ []) []
+unfolding numbersFrom filterb
+filter-last test a zero = let same : a + 0 ≡ a = omega arith in rw same
+filter-last test a (suc k) =
+    let same : a + suc k ≡ (a + 1) + k = omega arith in
+    rw same (tested (test a) (filter-last test (a + 1) k))
+  where
+    before : List ℕ
+    before = filterb test (numbersFrom (a + 1) k)
+
+    all : List ℕ
+    all = filterb test (numbersFrom (a + 1) (suc k))
+
+    last : List ℕ
+    last = cond (test ((a + 1) + k)) (((a + 1) + k) ∷ []) []
+
+    tested : (t : Bool) → all ≡ before ++ last → cond t (a ∷ all) all ≡ cond t (a ∷ before) before ++ last
+    tested true e = ap (λ l. a ∷ l) e
+    tested false e = e
+
+-- one of the k numbers from a on, for which a test holds, and for none before it
+abbrev pub IsFirst : (ℕ → Bool) → ℕ → ℕ → ℕ → Type 0
+IsFirst test a k n = (a ≤ n) × (n < a + k) × (test n ≡ true) × ((m : ℕ) → a ≤ m → m < n → test m ≡ false)
+
+-- so is the first that the test takes of them
+pub filter-first : (test : ℕ → Bool) (a k n : ℕ) (more : List ℕ) → filterb test (numbersFrom a k) ≡ n ∷ more → IsFirst test a k n
+unfolding numbersFrom filterb
+filter-first test a zero n more e = absurd (nil-cons e)
+filter-first test a (suc k) n more e = tested (test a) refl (filter-first test (a + 1) k n more) e
+  where
+    after : List ℕ
+    after = filterb test (numbersFrom (a + 1) k)
+
+    tested : (t : Bool) → test a ≡ t → (after ≡ n ∷ more → IsFirst test (a + 1) k n) → cond t (a ∷ after) after ≡ n ∷ more → IsFirst test a (suc k) n
+    tested true holds later f = let here : a ≡ n = head-same f in (omega arith, omega arith, rw (sym here) holds, λ m above below. absurd (omega arith))
+    tested false fails later f =
+        let (above, below, holds, none) = later f in
+        (omega arith, omega arith, holds, λ m least most. before m least most (eqb m a) refl none)
+      where
+        before : (m : ℕ) → a ≤ m → m < n → (t : Bool) → eqb m a ≡ t → ((j : ℕ) → a + 1 ≤ j → j < n → test j ≡ false) → test m ≡ false
+        before m least most true same none = rw (eqb-true m a same) fails
+        before m least most false other none = none m (past-other m a least (eqb-false m a other)) most
 
 -- where the test holds for none of the numbers from a on, below a + k, it takes none
 pub filter-none : (test : ℕ → Bool) (a k : ℕ) → ((m : ℕ) → a ≤ m → m < a + k → test m ≡ false) → filterb test (numbersFrom a k) ≡ []

@@ -1,4 +1,4 @@
--- Outcomes as answers of more than one number: headers, strings, and the steps over buckets and hashes.
+-- Outcomes as answers of more than one number: headers, strings, the steps over buckets and hashes, and the table check.
 use Prim.Native.Nat.{ℕ}
 use mathlib.Core.Option.{Option, some, none}
 use Rattle.reader.specs.Outcome.{Outcome, answered, refused}
@@ -11,11 +11,13 @@ use Rattle.strings.specs.Strings.{Text}
 use Rattle.hashes.specs.declared.bucket.NameBucketIter.{NameBucketIter}
 use Rattle.hashes.specs.declared.bucket.BucketName.{BucketName}
 use Rattle.hashes.specs.declared.hash.NameHashIter.{NameHashIter}
+use Rattle.tables.specs.Check.{Checked, no-table, complete, incomplete}
 use Rattle.step_answers.specs.declared.HeaderAnswer.{HeaderAnswer}
 use Rattle.step_answers.specs.declared.HeaderFacts.{HeaderFacts}
 use Rattle.step_answers.specs.declared.StringAnswer.{StringAnswer}
 use Rattle.step_answers.specs.declared.BucketAnswer.{BucketAnswer}
 use Rattle.step_answers.specs.declared.HashAnswer.{HashAnswer}
+use Rattle.step_answers.specs.declared.TableAnswer.{TableAnswer}
 use Rattle.handles.specs.Handles.{handleOf, cursorFrom, noHandle, noCursor}
 
 -- a header step: the header's place, and the handle of the index that it describes
@@ -64,3 +66,11 @@ hashAnswerAt next (refused n v) = record { status = n; kind = 0; value = v; next
 
 abbrev pub hashStepAnswer : Step NameTableIndex NameHashIter → HashAnswer
 hashStepAnswer t = hashAnswerAt (t .cursor) (t .answer)
+
+-- the table check. Kind 0 is no hash table; 1 is complete; 2 is incomplete: `value` is how many names are missed, `name` the smallest number among
+-- them, and `hash` the hash that is stored for that name. Elsewhere these are 0, but for the value of a refusal.
+abbrev pub tableAnswer : Outcome Checked → TableAnswer
+tableAnswer (answered no-table) = record { status = 0; kind = 0; value = 0; name = 0; hash = 0 }
+tableAnswer (answered complete) = record { status = 0; kind = 1; value = 0; name = 0; hash = 0 }
+tableAnswer (answered (incomplete lost)) = record { status = 0; kind = 2; value = lost .missed; name = lost .name .0; hash = lost .hash }
+tableAnswer (refused n v) = record { status = n; kind = 0; value = v; name = 0; hash = 0 }

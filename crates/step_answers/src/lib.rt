@@ -1,11 +1,12 @@
-// Answers of more than one number, as they are handed over to C, C++ and Rust: headers, strings, and the steps over buckets and hashes, each
-// with the cursor after it.
+// Answers of more than one number, as they are handed over to C, C++ and Rust: headers, strings, the steps over buckets and hashes, each with
+// the cursor after it, and the table check.
 ghost use mathlib.Core.Path.{_≡_};
 ghost use Rattle.headers.specs.Answers.{headerStepOf};
 ghost use Rattle.strings.specs.Answers.{strOutcome};
 ghost use Rattle.hashes.specs.Answers.{bucketStepOf, hashOutcome, hashStepOf};
+ghost use Rattle.tables.specs.Check.{checkOutcome};
 ghost use Rattle.handles.specs.Handles.{noHandle, noCursor};
-ghost use Rattle.step_answers.specs.Steps.{headerAnswer, headerFacts, stringAnswer, bucketStepAnswer, hashAnswer, hashStepAnswer};
+ghost use Rattle.step_answers.specs.Steps.{headerAnswer, headerFacts, stringAnswer, bucketStepAnswer, hashAnswer, hashStepAnswer, tableAnswer};
 use handles::HashCursor;
 use handles::IndexHandle;
 use handles::cursor_of;
@@ -16,6 +17,7 @@ use hashes::NameHashStep;
 use headers::Augmentation;
 use headers::HeaderStep;
 use strings::StrRead;
+use tables::TableCheck;
 
 // A step over the headers: kind 0 is the end; 1 is a header, at the place `value`, with the index that it describes.
 #[repr(C)]
@@ -64,6 +66,17 @@ pub struct HashAnswer {
     pub kind: u32,
     pub value: u64,
     pub next: HashCursor,
+}
+
+// What the table check says: kind 0 is no table; 1 is complete; 2 is incomplete, with the number of missed names in `value`, the smallest of
+// their numbers, and the hash that is stored for that name.
+#[repr(C)]
+pub struct TableAnswer {
+    pub status: u32,
+    pub kind: u32,
+    pub value: u64,
+    pub name: u32,
+    pub hash: u32,
 }
 
 // The handle of no index, and the cursor of no lookup.
@@ -275,6 +288,45 @@ pub fn hash_step_answer(r: NameHashStep) -> HashAnswer
             kind: 0,
             value: e.value(),
             next: cursor_of(after),
+        },
+    }
+}
+
+// The table check.
+pub fn table_answer(r: TableCheck) -> TableAnswer
+    ensures { λ a. ⌜ a ≡ tableAnswer (checkOutcome r) ⌝ }
+{
+    match r {
+        TableCheck::NoTable => TableAnswer {
+            status: 0,
+            kind: 0,
+            value: 0,
+            name: 0,
+            hash: 0,
+        },
+        TableCheck::Complete => TableAnswer {
+            status: 0,
+            kind: 1,
+            value: 0,
+            name: 0,
+            hash: 0,
+        },
+        TableCheck::Incomplete(n) => {
+            let name = n.name;
+            TableAnswer {
+                status: 0,
+                kind: 2,
+                value: n.missed as u64,
+                name: name.0,
+                hash: n.hash,
+            }
+        }
+        TableCheck::Refused(e) => TableAnswer {
+            status: e.number() as u32,
+            kind: 0,
+            value: e.value(),
+            name: 0,
+            hash: 0,
         },
     }
 }

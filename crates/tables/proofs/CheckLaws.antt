@@ -1,26 +1,30 @@
--- Laws of the check: the starts, one at a time; the missed names, one at a time; and what the count of them keeps from turn to turn.
+-- Laws of the check: the starts, one at a time; the missed names, one at a time; the verdict; and what the loop keeps from turn to turn.
 use Prim.Native.Nat.{ℕ, suc, _+_, _-_, _*_, _≤_, _<_}
 use mathlib.Core.Path.{_≡_, refl, sym, ap, _∙_}
 use mathlib.Core.Bool.{Bool, true, false, not, cond}
-use mathlib.Core.List.{List, [], _∷_}
+use mathlib.Core.Logic.{_⊎_, inl, inr, ⊎-elim}
+use mathlib.Core.List.{List, [], _∷_, _++_, append-nil}
 use native.Mathlib.Omega.{arith}
-use lib.ListN.{length}
-use lib.Dec.{ltb}
-use borrow.Author.Tests.{lt-ltb, le-ltb}
-use Rattle.reader.specs.Outcome.{answered}
+use lib.ListN.{length, length-append}
+use lib.Dec.{ltb, eqb}
+use borrow.Author.Tests.{lt-ltb, eqb-true, eqb-false, ne-eqb}
+use Rattle.reader.specs.Outcome.{answered, refuseIf}
+use Rattle.reader.specs.Errors.{longest}
 use Rattle.reader.specs.declared.endianity.RunTimeEndian.{RunTimeEndian}
+use Rattle.reader.proofs.OutcomeLaws.{same-answer, bind-answered, then-answered, passed, cond-is}
 use Rattle.index.specs.declared.layout.NameIndex.{NameIndex}
 use Rattle.index.specs.declared.layout.Parts.{Parts}
 use Rattle.index.specs.Layout.{parts, Fits, fitted}
 use Rattle.index.proofs.LayoutLaws.{fitted-answered}
 use Rattle.reader.specs.Lists.{numbersFrom, filterb, memberb}
 use Rattle.hashes.specs.Table.{nthOf, storedStart, storedHash, bucketOf, namesFrom, run}
-use Rattle.reader.proofs.ListLaws.{filter-step, past-other}
+use Rattle.reader.proofs.ListLaws.{numbers-length, filter-length, filter-step, filter-last, filter-first, past-other}
 use Rattle.hashes.proofs.TableLaws.{buckets-end, hashes-end, strings-inside, bucket-below}
 use Rattle.tables.specs.declared.Segment.{Segment}
-use Rattle.tables.specs.Segments.{followed, missesAt}
-use Rattle.tables.proofs.SegmentLaws.{Before, before-first, before-next, followed-bucket, misses-member}
-use Rattle.tables.specs.Check.{startAbove, anyAbove, isMissed, missedNames}
+use Rattle.tables.specs.declared.Count.{Count}
+use Rattle.tables.specs.Segments.{followed, reachedIn, countedAt}
+use Rattle.tables.proofs.SegmentLaws.{Before, before-first, before-next, followed-bucket, reached-member}
+use Rattle.tables.specs.Check.{Checked, no-table, complete, incomplete, startAbove, anyAbove, isMissed, missedNames, verdict, tableCheck}
 
 -- whether a bucket from a number on has a start above N + 1
 unfoldable pub aboveFrom : ℕ → (ℕ → ℕ) → ℕ → ℕ → Bool
@@ -43,36 +47,105 @@ above-step names startOf buckets bucket = rw (filter-step (startAbove names star
     tested true false = refl
     tested false u = refl
 
--- the missed names from a number on, and how many
-unfoldable pub missedFrom : RunTimeEndian → List ℕ → NameIndex → ℕ → ℕ
-missedFrom order s i name = length (filterb (isMissed order s i) (namesFrom i name))
+-- the missed names below a number
+unfoldable pub missedBelow : RunTimeEndian → List ℕ → NameIndex → ℕ → List ℕ
+missedBelow order s i name = filterb (isMissed order s i) (numbersFrom 0 name)
 
-pub missed-step : (order : RunTimeEndian) (s : List ℕ) (i : NameIndex) (name : ℕ)
-    → missedFrom order s i name ≡ cond (ltb name (i .«name_count»)) (cond (isMissed order s i name) (suc (missedFrom order s i (name + 1))) (missedFrom order s i (name + 1))) 0
-unfolding missedFrom namesFrom
-missed-step order s i name = rw (filter-step (isMissed order s i) (i .«name_count») name) (tested (ltb name (i .«name_count»)) (isMissed order s i name))
-  where
-    after : List ℕ
-    after = filterb (isMissed order s i) (numbersFrom (name + 1) (i .«name_count» - (name + 1)))
+-- one more name
+missed-last : (order : RunTimeEndian) (s : List ℕ) (i : NameIndex) (name : ℕ)
+    → missedBelow order s i (name + 1) ≡ missedBelow order s i name ++ cond (isMissed order s i name) (name ∷ []) []
+unfolding missedBelow
+missed-last order s i name =
+    let next : name + 1 ≡ suc name = omega arith in
+    let here : 0 + name ≡ name = omega arith in
+    rw next (rw here at (filter-last (isMissed order s i) 0 name))
 
-    tested : (t u : Bool) → length (cond t (cond u (name ∷ after) after) []) ≡ cond t (cond u (suc (length after)) (length after)) 0
-    tested true true = refl
-    tested true false = refl
-    tested false u = refl
+-- up to the last name
+missed-all : (order : RunTimeEndian) (s : List ℕ) (i : NameIndex) → missedBelow order s i (i .«name_count») ≡ missedNames order s i
+unfolding missedBelow missedNames namesFrom
+missed-all order s i = let all : i .«name_count» - 0 ≡ i .«name_count» = omega arith in rw all
 
--- what the count keeps: where the table stands, how many names were missed before a name, and the segment before it
-pub record Counting (order : RunTimeEndian) (s : List ℕ) (i : NameIndex) (starts hashes : ℕ) (g : Segment) (missed name : ℕ) : Type 0 where
+-- what is kept of these names: how many they are, and the first
+unfoldable pub kept : List ℕ → Count
+kept [] = record { missed = 0; least = 0 }
+kept (name ∷ more) = record { missed = suc (length more); least = name }
+
+kept-length : (names : List ℕ) → kept names .missed ≡ length names
+unfolding kept
+kept-length [] = refl
+kept-length (name ∷ more) = refl
+
+-- one more behind them
+kept-last : (names : List ℕ) (name : ℕ)
+    → kept (names ++ (name ∷ [])) ≡ cond (eqb (kept names .missed) 0) (record { missed = 1; least = name }) (record { missed = kept names .missed + 1; least = kept names .least })
+unfolding kept
+kept-last [] name = refl
+kept-last (first ∷ more) name =
+    let one-more : length (more ++ (name ∷ [])) ≡ length more + 1 = length-append more (name ∷ []) in
+    let longer : suc (length (more ++ (name ∷ []))) ≡ suc (length more) + 1 = omega arith in
+    rw (ne-eqb (suc (length more)) 0 (λ e. omega arith), longer)
+
+-- the verdict by what is kept
+verdict-none : (hashOf : ℕ → ℕ) (names : List ℕ) → kept names .missed ≡ 0 → verdict hashOf names ≡ complete
+unfolding kept verdict
+verdict-none hashOf [] none = refl
+verdict-none hashOf (name ∷ more) none = absurd (omega arith)
+
+verdict-some : (hashOf : ℕ → ℕ) (names : List ℕ) → (kept names .missed ≡ 0 → ⊥)
+    → verdict hashOf names ≡ incomplete (record { missed = kept names .missed; name = record { 0 = kept names .least }; hash = hashOf (kept names .least) })
+unfolding kept verdict
+verdict-some hashOf [] some = absurd (some refl)
+verdict-some hashOf (name ∷ more) some = refl
+
+-- the verdict is complete for no names only, and never that there is no table
+pub no-table-complete : no-table ≡ complete → ⊥
+no-table-complete e = let z : _≡_ {A = ℕ} 0 1 = cc in omega arith
+
+pub verdict-complete : (hashOf : ℕ → ℕ) (names : List ℕ) → verdict hashOf names ≡ complete → names ≡ []
+unfolding verdict
+verdict-complete hashOf [] e = refl
+verdict-complete hashOf (name ∷ more) e = let z : _≡_ {A = ℕ} 0 1 = cc in absurd (omega arith)
+
+pub verdict-table : (hashOf : ℕ → ℕ) (names : List ℕ) → verdict hashOf names ≡ no-table → ⊥
+unfolding verdict
+verdict-table hashOf [] e = no-table-complete (sym e)
+verdict-table hashOf (name ∷ more) e = let z : _≡_ {A = ℕ} 0 1 = cc in omega arith
+
+-- what the check has found where it answers: an index without buckets; or a table whose starts are all taken, and the verdict on its names
+pub check-answered : (order : RunTimeEndian) (s : List ℕ) (i : NameIndex) (a : Checked) → tableCheck order s i ≡ answered a
+    → ((i .«bucket_count» ≡ 0) × (no-table ≡ a))
+    ⊎ ((length s ≤ longest) × Fits s i × (0 < i .«bucket_count») × (anyAbove (i .«name_count») (storedStart order s (parts i)) (i .«bucket_count») ≡ false)
+    × (verdict (storedHash order s (parts i)) (missedNames order s i) ≡ a))
+unfolding tableCheck
+check-answered order s i a e =
+    let (p, given, rest) = bind-answered (fitted s i) _ a e in
+    let (short, fits, same) = fitted-answered s i p given in
+    ⊎-elim
+    (λ (here, none). inl (eqb-true (i .«bucket_count») 0 here, same-answer none))
+    (λ (here, more).
+    let (u, inside, said) = then-answered (refuseIf (anyAbove (i .«name_count») (storedStart order s p) (i .«bucket_count»)) 1 (p .«hash_table_data»)) _ a more in
+    inr (
+      short,
+      fits,
+      past-other (i .«bucket_count») 0 (omega arith) (eqb-false (i .«bucket_count») 0 here),
+      rw same at (passed (anyAbove (i .«name_count») (storedStart order s p) (i .«bucket_count»)) 1 (p .«hash_table_data») u inside),
+      rw same at (same-answer said),
+    ))
+    (cond-is (eqb (i .«bucket_count») 0) _ _ (answered a) rest)
+
+-- what the loop keeps: where the table stands, what is kept of the names that were missed before a name, and the segment before it
+pub record Counting (order : RunTimeEndian) (s : List ℕ) (i : NameIndex) (starts hashes : ℕ) (g : Segment) (passed : Count) (name : ℕ) : Type 0 where
   pub at-starts : starts ≡ parts i .«bucket_data»
   pub at-hashes : hashes ≡ parts i .«hash_table_data»
   pub fits : Fits s i
   pub some : 0 < i .«bucket_count»
-  pub counted : missed + missedFrom order s i name ≡ length (missedNames order s i)
-  pub least : missed ≤ name
+  pub within : name ≤ i .«name_count»
+  pub counted : passed ≡ kept (missedBelow order s i name)
   pub before : Before i (storedStart order s (parts i)) (storedHash order s (parts i)) name g
 
 pub counting-first : (order : RunTimeEndian) (s : List ℕ) (i : NameIndex) (p : Parts) → answered p ≡ fitted s i → (i .«bucket_count» ≡ 0 → ⊥)
-    → Counting order s i (p .«bucket_data») (p .«hash_table_data») (record { bucket = i .«bucket_count»; first = 0; start = 0 }) 0 0
-unfolding missedFrom missedNames
+    → Counting order s i (p .«bucket_data») (p .«hash_table_data») (record { bucket = i .«bucket_count»; first = 0; start = 0 }) (record { missed = 0; least = 0 }) 0
+unfolding missedBelow kept filterb numbersFrom
 counting-first order s i p given other =
     let (short, fits, same) = fitted-answered s i p (sym given) in
     record {
@@ -80,30 +153,37 @@ counting-first order s i p given other =
       at-hashes = ap (λ q. q .«hash_table_data») same;
       fits = fits;
       some = past-other (i .«bucket_count») 0 (omega arith) other;
-      counted = omega arith;
-      least = omega arith;
+      within = omega arith;
+      counted = refl;
       before = before-first i (storedStart order s (parts i)) (storedHash order s (parts i));
     }
 
-module _ (order : RunTimeEndian) (s : List ℕ) (i : NameIndex) (starts hashes : ℕ) (g : Segment) (missed name : ℕ) (k : Counting order s i starts hashes g missed name) where
+module _ (order : RunTimeEndian) (s : List ℕ) (i : NameIndex) (starts hashes : ℕ) (g : Segment) (passed : Count) (name : ℕ) (k : Counting order s i starts hashes g passed name) where
   -- where the numbers of the table stand
-  pub hash-inside : name < i .«name_count» → hashes + 4 * name + 4 ≤ length s
-  hash-inside below = omega (arith, k .at-hashes, hashes-end i (k .some), strings-inside s i (k .fits))
+  pub hash-inside : (n : ℕ) → n < i .«name_count» → hashes + 4 * n + 4 ≤ length s
+  hash-inside n below = omega (arith, k .at-hashes, hashes-end i (k .some), strings-inside s i (k .fits))
 
   pub start-inside : (hash : ℕ) → starts + 4 * bucketOf i hash + 4 ≤ length s
   start-inside hash = omega (arith, k .at-starts, buckets-end i, hashes-end i (k .some), strings-inside s i (k .fits), bucket-below i hash (k .some))
 
+  -- no more names are missed than were passed
+  pub missed-most : passed .missed ≤ name
+  unfolding missedBelow
+  missed-most =
+      let most = filter-length (isMissed order s i) (numbersFrom 0 name) in
+      rw (k .counted, kept-length (missedBelow order s i name)) (rw (numbers-length 0 name) at most)
+
   -- one more name
   pub counting-next : name < i .«name_count»
-      → Counting order s i starts hashes (followed i (nthOf order s starts) g name (nthOf order s hashes name)) (missed + missesAt (followed i (nthOf order s starts) g name (nthOf order s hashes name)) name) (name + 1)
-  unfolding storedStart storedHash isMissed run
+      → Counting order s i starts hashes (followed i (nthOf order s starts) g name (nthOf order s hashes name)) (countedAt passed (followed i (nthOf order s starts) g name (nthOf order s hashes name)) name) (name + 1)
+  unfolding storedStart storedHash isMissed run countedAt
   counting-next below = rw (k .at-starts, k .at-hashes) record {
     at-starts = refl;
     at-hashes = refl;
     fits = k .fits;
     some = k .some;
-    counted = total (isMissed order s i name) (rw (missed-step order s i name, lt-ltb name (i .«name_count») below) at (k .counted)) here;
-    least = at-most (isMissed order s i name) here (k .least);
+    within = omega arith;
+    counted = rw (here, missed-last order s i name, k .counted) (one-more (memberb name (run order s i (bucketOf i (storedHash order s (parts i) name)))));
     before = next;
   }
     where
@@ -113,27 +193,35 @@ module _ (order : RunTimeEndian) (s : List ℕ) (i : NameIndex) (starts hashes :
       next : Before i (storedStart order s (parts i)) (storedHash order s (parts i)) (name + 1) after
       next = before-next i (storedStart order s (parts i)) (storedHash order s (parts i)) name g (k .before)
 
-      other-way : (t : Bool) → _≡_ {A = ℕ} (cond t 0 1) (cond (not t) 1 0)
-      other-way true = refl
-      other-way false = refl
-
-      here : missesAt after name ≡ cond (isMissed order s i name) 1 0
+      here : reachedIn after name ≡ memberb name (run order s i (bucketOf i (storedHash order s (parts i) name)))
       here =
-          misses-member i (storedStart order s (parts i)) (storedHash order s (parts i)) name after next
+          reached-member i (storedStart order s (parts i)) (storedHash order s (parts i)) name after next
           (followed-bucket i (storedStart order s (parts i)) (storedHash order s (parts i)) name g) below (k .some)
-          ∙ other-way (memberb name (run order s i (bucketOf i (storedHash order s (parts i) name))))
 
-      total : (t : Bool) → missed + cond t (suc (missedFrom order s i (name + 1))) (missedFrom order s i (name + 1)) ≡ length (missedNames order s i) → missesAt after name ≡ cond t 1 0
-          → (missed + missesAt after name) + missedFrom order s i (name + 1) ≡ length (missedNames order s i)
-      total true e h = omega arith
-      total false e h = omega arith
+      one-more : (t : Bool)
+          → cond t (kept (missedBelow order s i name)) (cond (eqb (kept (missedBelow order s i name) .missed) 0) (record { missed = 1; least = name }) (record { missed = kept (missedBelow order s i name) .missed + 1; least = kept (missedBelow order s i name) .least }))
+          ≡ kept (missedBelow order s i name ++ cond (not t) (name ∷ []) [])
+      one-more true = ap kept (sym (append-nil (missedBelow order s i name)))
+      one-more false = sym (kept-last (missedBelow order s i name) name)
 
-      at-most : (t : Bool) → missesAt after name ≡ cond t 1 0 → missed ≤ name → missed + missesAt after name ≤ name + 1
-      at-most true h l = omega arith
-      at-most false h l = omega arith
-
-  -- after the last name all were counted
-  pub counting-last : i .«name_count» ≤ name → length (missedNames order s i) ≡ missed
+  -- after the last name all missed ones are counted, and the verdict follows from the count
+  counting-last : i .«name_count» ≤ name → passed ≡ kept (missedNames order s i)
   counting-last above =
-      let none-left : missedFrom order s i name ≡ 0 = missed-step order s i name ∙ rw (le-ltb name (i .«name_count») above) in
-      omega (arith, k .counted)
+      let last : name ≡ i .«name_count» = omega (arith, k .within) in
+      rw (k .counted, last, missed-all order s i)
+
+  pub none-counted : (hashOf : ℕ → ℕ) → i .«name_count» ≤ name → passed .missed ≡ 0 → verdict hashOf (missedNames order s i) ≡ complete
+  none-counted hashOf above none = verdict-none hashOf (missedNames order s i) (rw (counting-last above) at none)
+
+  pub some-counted : (hashOf : ℕ → ℕ) → i .«name_count» ≤ name → (passed .missed ≡ 0 → ⊥)
+      → verdict hashOf (missedNames order s i) ≡ incomplete (record { missed = passed .missed; name = record { 0 = passed .least }; hash = hashOf (passed .least) })
+  some-counted hashOf above some = rw (counting-last above) (verdict-some hashOf (missedNames order s i) (rw (counting-last above) at some))
+
+  -- the smallest missed name is one of the names that were passed
+  pub least-below : (passed .missed ≡ 0 → ⊥) → passed .least < i .«name_count»
+  unfolding kept missedBelow
+  least-below some = rw (k .counted) (of-kept (missedBelow order s i name) refl (rw (k .counted) at some))
+    where
+      of-kept : (names : List ℕ) → missedBelow order s i name ≡ names → (kept names .missed ≡ 0 → ⊥) → kept names .least < i .«name_count»
+      of-kept [] e some = absurd (some refl)
+      of-kept (first ∷ more) e some = let (above, below, holds, none) = filter-first (isMissed order s i) 0 name first more e in omega (arith, k .within)

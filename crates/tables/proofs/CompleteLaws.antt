@@ -10,17 +10,16 @@ use lib.ListN.{length}
 use lib.Seq.{take-all}
 use lib.Dec.{ltb, leb, eqb}
 use borrow.Author.Tests.{ltb-true, ltb-false, le-ltb, leb-true, leb-false, eqb-true, eqb-false, eq-eqb, ne-eqb}
-use Rattle.reader.specs.Outcome.{Outcome, answered, refused, refuseIf}
+use Rattle.reader.specs.Outcome.{Outcome, answered, refused}
 use Rattle.reader.specs.Errors.{longest}
 use Rattle.reader.specs.Numbers.{Bytes}
 use Rattle.reader.specs.Steps.{Linked, hasEnd, upToEnd}
 use Rattle.reader.specs.declared.endianity.RunTimeEndian.{RunTimeEndian}
 use Rattle.reader.specs.declared.common.NameTableIndex.{NameTableIndex}
-use Rattle.reader.proofs.OutcomeLaws.{same-answer, bind-answered, then-answered, passed, cond-is}
 use Rattle.reader.proofs.NumberLaws.{number-read, read-below}
 use Rattle.index.specs.declared.layout.NameIndex.{NameIndex}
-use Rattle.index.specs.Layout.{parts, Fits, fitted}
-use Rattle.index.proofs.LayoutLaws.{fitted-answered, fitted-fits}
+use Rattle.index.specs.Layout.{parts, Fits}
+use Rattle.index.proofs.LayoutLaws.{fitted-fits}
 use Rattle.hashes.specs.declared.hash.NameHashIter.{NameHashIter}
 use Rattle.hashes.specs.declared.hash.HashRead.{HashRead}
 use Rattle.hashes.specs.declared.hash.NameHashStep.{NameHashStep}
@@ -29,11 +28,12 @@ use Rattle.hashes.specs.Table.{nthOf, storedStart, storedHash, bucketOf, namesF
 use Rattle.hashes.specs.Lookups.{findByHash, hashStep}
 use Rattle.hashes.specs.Answers.{hashOutcome, hashStepOf}
 use Rattle.hashes.specs.Demand3.{hashAnswers, hashNames}
-use Rattle.reader.proofs.ListLaws.{past-other, false-true, filter-step, filter-none, filter-later, member-filter, filter-member, member-numbers, no-members}
+use Rattle.reader.proofs.ListLaws.{false-true, filter-step, filter-none, filter-later, member-filter, filter-member, member-numbers, no-members}
 use Rattle.hashes.proofs.TableLaws.{bucket-below, bucket-itself, storing-step, of-run, hashes-inside}
 use Rattle.hashes.proofs.LookupLaws.{started, find-fits, find-answered, hash-answered, hash-lookups, hashes-have-end, steps-follow}
-use Rattle.tables.specs.Check.{no-table, complete, incomplete, startAbove, anyAbove, isMissed, missedNames, verdict, tableCheck}
+use Rattle.tables.specs.Check.{no-table, complete, startAbove, anyAbove, isMissed, missedNames, verdict, tableCheck}
 use Rattle.tables.specs.Demand3.{ListsAll, CompleteExactly}
+use Rattle.tables.proofs.CheckLaws.{no-table-complete, verdict-complete, verdict-table, check-answered}
 
 -- Where all names that store the hash belong to the run from a number on, the run's names that store it are all names from there on that do.
 module _ (i : NameIndex) (hashOf : ℕ → ℕ) (bucket hash : ℕ) where
@@ -131,68 +131,55 @@ module _ (order : RunTimeEndian) (s : List ℕ) (i : NameIndex) where
           (filter-member (startAbove (i .«name_count») (storedStart order s (parts i))) bucket (numbersFrom 0 (i .«bucket_count»)) e (member-numbers bucket 0 (i .«bucket_count») (omega arith) (omega arith))))
       at-bucket false e = refl
 
-  none-missed : length (missedNames order s i) ≡ 0 → NoneMissed
+  none-missed : missedNames order s i ≡ [] → NoneMissed
   unfolding missedNames isMissed namesFrom
   none-missed nothing name below = reached (memberb name (run order s i (bucketOf i (storedHash order s (parts i) name)))) refl
     where
       reached : (t : Bool) → memberb name (run order s i (bucketOf i (storedHash order s (parts i) name))) ≡ t → t ≡ true
       reached true e = refl
       reached false e =
-          absurd (no-members name (filterb (isMissed order s i) (numbersFrom 0 (i .«name_count» - 0))) nothing
+          absurd (no-members name (filterb (isMissed order s i) (numbersFrom 0 (i .«name_count» - 0))) (ap length nothing)
           (filter-member (isMissed order s i) name (numbersFrom 0 (i .«name_count» - 0)) (ap not e) (member-numbers name 0 (i .«name_count» - 0) (omega arith) (omega arith))))
 
   -- what the check says where it says complete
   check-complete : tableCheck order s i ≡ answered complete
-      → (length s ≤ longest) × Fits s i × (0 < i .«bucket_count») × (anyAbove (i .«name_count») (storedStart order s (parts i)) (i .«bucket_count») ≡ false) × (length (missedNames order s i) ≡ 0)
-  unfolding tableCheck verdict
+      → (length s ≤ longest) × Fits s i × (0 < i .«bucket_count») × (anyAbove (i .«name_count») (storedStart order s (parts i)) (i .«bucket_count») ≡ false) × (missedNames order s i ≡ [])
   check-complete e =
-      let (p, given, rest) = bind-answered (fitted s i) _ complete e in
-      let (short, fits, same) = fitted-answered s i p given in
       ⊎-elim
-      (λ (here, other). absurd (tables-differ (same-answer other)))
-      (λ (here, more).
-      let (u, inside, said) = then-answered (refuseIf (anyAbove (i .«name_count») (storedStart order s p) (i .«bucket_count»)) 1 (p .«hash_table_data»)) _ complete more in (
-        short,
-        fits,
-        past-other (i .«bucket_count») 0 (omega arith) (eqb-false (i .«bucket_count») 0 here),
-        rw same at (passed (anyAbove (i .«name_count») (storedStart order s p) (i .«bucket_count»)) 1 (p .«hash_table_data») u inside),
-        no-verdict (length (missedNames order s i)) (eqb (length (missedNames order s i)) 0) refl (same-answer said),
-      ))
-      (cond-is (eqb (i .«bucket_count») 0) _ _ (answered complete) rest)
-    where
-      tables-differ : no-table ≡ complete → ⊥
-      tables-differ e = let z : _≡_ {A = ℕ} 0 1 = cc in omega arith
-
-      complete-differs : {n : ℕ} → incomplete n ≡ complete → ⊥
-      complete-differs e = let z : _≡_ {A = ℕ} 0 1 = cc in omega arith
-
-      no-verdict : (n : ℕ) (t : Bool) → eqb n 0 ≡ t → cond t complete (incomplete n) ≡ complete → n ≡ 0
-      no-verdict n true e h = eqb-true n 0 e
-      no-verdict n false e h = absurd (complete-differs h)
+      (λ (no-buckets, same). absurd (no-table-complete same))
+      (λ (short, fits, buckets, none-above, said). (short, fits, buckets, none-above, verdict-complete _ (missedNames order s i) said))
+      (check-answered order s i complete e)
 
   -- what linked steps list up to the first end
   abbrev given-by : NameHashIter → ℕ → Type 0
   given-by c hash = hashOutcome (HashRead.Value c) ≡ findByHash order s i hash
 
-  steps-name : (hash : ℕ) (c : NameHashIter) (steps : List NameHashStep) → given-by c hash → Linked hashStepOf (hashStep order s i) c steps → hasEnd (hashAnswers steps) ≡ true
+  pub steps-name : (hash : ℕ) (c : NameHashIter) (steps : List NameHashStep) → given-by c hash → Linked hashStepOf (hashStep order s i) c steps → hasEnd (hashAnswers steps) ≡ true
       → upToEnd (hashAnswers steps) ≡ hashNames (namesOfHash order s i hash)
   steps-name hash c steps given linked ended =
       let (same, end) = hash-lookups order s i hash c steps given linked in
       let more = ltb-true (length (hashNames (namesOfHash order s i hash))) (length (hashAnswers steps)) (sym end ∙ ended) in
       same ∙ take-all (length (hashAnswers steps)) (hashNames (namesOfHash order s i hash)) (omega arith)
 
-  -- a complete table lists all names of each hash
-  complete-lists : tableCheck order s i ≡ answered complete → (hash : ℕ) → ListsAll order s i hash
+  -- in a table whose starts are all taken each lookup gives a cursor, and its steps reach an end
+  pub lookup-ends : length s ≤ longest → Fits s i → 0 < i .«bucket_count» → anyAbove (i .«name_count») (storedStart order s (parts i)) (i .«bucket_count») ≡ false → (hash : ℕ)
+      → (c : NameHashIter) × given-by c hash × ((steps : List NameHashStep) × Linked hashStepOf (hashStep order s i) c steps × (hasEnd (hashAnswers steps) ≡ true))
   unfolding findByHash
-  complete-lists e hash =
-      let (short, fits, buckets, none-above, nothing) = check-complete e in
+  lookup-ends short fits buckets none-above hash =
       let below = bucket-below i hash buckets in
       let inside = starts-inside none-above (bucketOf i hash) below in
       let c : NameHashIter = record { «bucket_iter» = started (bucketOf i hash) (storedStart order s (parts i) (bucketOf i hash)); hash = hash } in
       let given : given-by c hash = rw (find-fits order s i (bucketOf i hash) short fits below, le-ltb (i .«name_count» + 1) (storedStart order s (parts i) (bucketOf i hash)) inside) in
       let (steps, count, linked) = steps-follow order s i hash c (i .«name_count» + 1) given in
+      (c, given, (steps, linked, hashes-have-end order s i hash c steps given linked (omega arith)))
+
+  -- a complete table lists all names of each hash
+  complete-lists : tableCheck order s i ≡ answered complete → (hash : ℕ) → ListsAll order s i hash
+  complete-lists e hash =
+      let (short, fits, buckets, none-above, nothing) = check-complete e in
+      let (c, given, reaches) = lookup-ends short fits buckets none-above hash in
       let all = names-all (none-missed nothing) hash in
-      (c, given, (steps, linked, hashes-have-end order s i hash c steps given linked (omega arith)), λ steps linked ended. steps-name hash c steps given linked ended ∙ ap hashNames all)
+      (c, given, reaches, λ steps linked ended. steps-name hash c steps given linked ended ∙ ap hashNames all)
 
   -- and where each hash lists all its names, no test of the check fails
   lists-inside : (hash : ℕ) → ListsAll order s i hash
@@ -243,12 +230,12 @@ module _ (order : RunTimeEndian) (s : List ℕ) (i : NameIndex) where
             let (short, fits, there, most) = lists-inside bucket (all bucket (omega arith)) in
             le-ltb (i .«name_count» + 1) (storedStart order s (parts i) bucket) (rw (bucket-itself i bucket below) at most)
 
-    nothing : Fits s i → 0 < i .«bucket_count» → length (missedNames order s i) ≡ 0
+    nothing : Fits s i → 0 < i .«bucket_count» → missedNames order s i ≡ []
     unfolding missedNames isMissed namesFrom
     nothing fits buckets =
-        rw (filter-none (isMissed order s i) 0 (i .«name_count» - 0)
+        filter-none (isMissed order s i) 0 (i .«name_count» - 0)
         (λ name h l. let below : name < i .«name_count» = omega arith in
-        ap not (lists-reach name below (all (storedHash order s (parts i) name) (hash-below bytes fits buckets name below)))))
+        ap not (lists-reach name below (all (storedHash order s (parts i) name) (hash-below bytes fits buckets name below))))
 
     lists-complete : tableCheck order s i ≡ answered complete
     unfolding tableCheck verdict
@@ -265,19 +252,11 @@ complete-names order s i e =
 
 -- and an index that the check says has no table has no buckets
 pub no-table-buckets : (order : RunTimeEndian) (s : List ℕ) (i : NameIndex) → tableCheck order s i ≡ answered no-table → i .«bucket_count» ≡ 0
-unfolding tableCheck verdict
 no-table-buckets order s i e =
-    let (p, given, rest) = bind-answered (fitted s i) _ no-table e in
     ⊎-elim
-    (λ (here, same). eqb-true (i .«bucket_count») 0 here)
-    (λ (here, more).
-    let (u, inside, said) = then-answered (refuseIf (anyAbove (i .«name_count») (storedStart order s p) (i .«bucket_count»)) 1 (p .«hash_table_data»)) _ no-table more in
-    absurd (by-missed (eqb (length (missedNames order s i)) 0) (same-answer said)))
-    (cond-is (eqb (i .«bucket_count») 0) _ _ (answered no-table) rest)
-  where
-    by-missed : (t : Bool) → cond t complete (incomplete (length (missedNames order s i))) ≡ no-table → ⊥
-    by-missed true h = let z : _≡_ {A = ℕ} 0 1 = cc in omega arith
-    by-missed false h = let z : _≡_ {A = ℕ} 0 1 = cc in omega arith
+    (λ (no-buckets, same). no-buckets)
+    (λ (short, fits, buckets, none-above, said). absurd (verdict-table _ (missedNames order s i) said))
+    (check-answered order s i no-table e)
 
 pub complete-exactly : CompleteExactly
 complete-exactly order s i bytes small = (λ e hash below. complete-lists order s i (sym e) hash, λ all. sym (lists-complete order s i bytes small all))

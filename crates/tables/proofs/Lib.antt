@@ -2,3 +2,4 @@
 pub mod SegmentLaws
 pub mod CheckLaws
 pub mod CompleteLaws
+pub mod LostLaws

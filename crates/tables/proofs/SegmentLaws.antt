@@ -13,17 +13,7 @@ use Rattle.hashes.specs.Table.{bucketOf, runFrom, fromStart}
 use Rattle.reader.proofs.ListLaws.{past-other}
 use Rattle.hashes.proofs.TableLaws.{bucket-below, in-run, of-run}
 use Rattle.tables.specs.declared.Segment.{Segment}
-use Rattle.tables.specs.Segments.{followed, missesAt}
-
--- at a name one name is missed at most
-pub misses-most : (r : ℕ) (g : Segment) (name : ℕ) → r ≡ missesAt g name → r ≤ 1
-unfolding missesAt
-misses-most r g name e = rw e (tested (leb (g .start) (g .first)) (ltb name (g .start - 1)))
-  where
-    tested : (t u : Bool) → cond t 1 (cond u 1 0) ≤ 1
-    tested true u = omega arith
-    tested false true = omega arith
-    tested false false = omega arith
+use Rattle.tables.specs.Segments.{followed, reachedIn}
 
 module _ (i : NameIndex) (startOf hashOf : ℕ → ℕ) where
   -- the segment before a name: all names from its first on belong to its bucket, the one before its first does not, it has the name before
@@ -91,12 +81,12 @@ module _ (i : NameIndex) (startOf hashOf : ℕ → ℕ) where
       tested true e = sym (eqb-true _ _ e)
       tested false e = refl
 
-  -- so a name is missed exactly where its segment says so
-  pub misses-member : (name : ℕ) (g : Segment) → Before (name + 1) g → g .bucket ≡ bucketOf i (hashOf name) → name < i .«name_count» → 0 < i .«bucket_count»
-      → missesAt g name ≡ cond (memberb name (fromStart (startOf (bucketOf i (hashOf name))) (runFrom i hashOf (bucketOf i (hashOf name))))) 0 1
-  unfolding missesAt fromStart memberb
-  misses-member name g b same below some =
-      rw (b .starts (rw same (bucket-below i (hashOf name) some)), same) (tested (leb start (g .first)) (ltb name (start - 1)) (eqb start 0) refl refl refl)
+  -- so a name is in the run of its bucket exactly where its segment says so
+  pub reached-member : (name : ℕ) (g : Segment) → Before (name + 1) g → g .bucket ≡ bucketOf i (hashOf name) → name < i .«name_count» → 0 < i .«bucket_count»
+      → reachedIn g name ≡ memberb name (fromStart (startOf (bucketOf i (hashOf name))) (runFrom i hashOf (bucketOf i (hashOf name))))
+  unfolding reachedIn fromStart memberb
+  reached-member name g b same below some =
+      rw (b .starts (rw same (bucket-below i (hashOf name) some)), same) (tested (leb start (g .first)) (leb (start - 1) name) (eqb start 0) refl refl refl)
     where
       bucket : ℕ
       bucket = bucketOf i (hashOf name)
@@ -105,12 +95,12 @@ module _ (i : NameIndex) (startOf hashOf : ℕ → ℕ) where
       start = startOf (bucketOf i (hashOf name))
 
       -- where the run cannot have the name
-      not-in : (t : Bool) → memberb name (runFrom i hashOf bucket (start - 1)) ≡ t → (memberb name (runFrom i hashOf bucket (start - 1)) ≡ true → ⊥) → _≡_ {A = ℕ} 1 (cond t 0 1)
+      not-in : (t : Bool) → memberb name (runFrom i hashOf bucket (start - 1)) ≡ t → (memberb name (runFrom i hashOf bucket (start - 1)) ≡ true → ⊥) → false ≡ t
       not-in true e never = absurd (never e)
       not-in false e never = refl
 
-      tested : (t u v : Bool) → leb start (g .first) ≡ t → ltb name (start - 1) ≡ u → eqb start 0 ≡ v
-          → _≡_ {A = ℕ} (cond t 1 (cond u 1 0)) (cond (memberb name (cond v [] (runFrom i hashOf bucket (start - 1)))) 0 1)
+      tested : (t u v : Bool) → leb start (g .first) ≡ t → leb (start - 1) name ≡ u → eqb start 0 ≡ v
+          → cond t false u ≡ memberb name (cond v [] (runFrom i hashOf bucket (start - 1)))
       tested true u true e f k = refl
       tested true u false e f k =
           let before = leb-true start (g .first) e in
@@ -121,11 +111,11 @@ module _ (i : NameIndex) (startOf hashOf : ℕ → ℕ) where
           some-before : start ≤ g .first → (start ≡ 0 → ⊥) → 0 < g .first
           some-before h other = let least = past-other start 0 (omega arith) other in omega arith
       tested false u true e f k = absurd (omega (arith, leb-false start (g .first) e, eqb-true start 0 k))
-      tested false true false e f k =
-          let past = ltb-true name (start - 1) f in
-          not-in (memberb name (runFrom i hashOf bucket (start - 1))) refl (λ h. let (above, below, all) = of-run i hashOf bucket name (start - 1) h in omega arith)
       tested false false false e f k =
+          let past = leb-false (start - 1) name f in
+          not-in (memberb name (runFrom i hashOf bucket (start - 1))) refl (λ h. let (above, below, all) = of-run i hashOf bucket name (start - 1) h in omega arith)
+      tested false true false e f k =
           let after = leb-false start (g .first) e in
-          let upto = ltb-false name (start - 1) f in
+          let upto = leb-true (start - 1) name f in
           let reached = in-run i hashOf bucket name (name - (start - 1)) (start - 1) (omega arith) below (λ m h l. b .together m (omega arith) (omega arith) ∙ same) in
-          rw reached
+          sym reached

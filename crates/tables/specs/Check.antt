@@ -1,7 +1,7 @@
--- The table check: document 01, "Buckets and hashes". `s` is the section.
+-- The table check: document 01, "Buckets and hashes"; document 02, No. 2. `s` is the section.
 use Prim.Native.Nat.{ℕ, _+_}
 use mathlib.Core.Bool.{Bool, not, cond}
-use mathlib.Core.List.{List}
+use mathlib.Core.List.{List, [], _∷_}
 use lib.ListN.{length}
 use lib.Dec.{ltb, eqb}
 use Rattle.reader.specs.Outcome.{Outcome, answered, _>>=_, _>>_, refuseIf}
@@ -11,23 +11,25 @@ use Rattle.index.specs.declared.layout.NameIndex.{NameIndex}
 use Rattle.index.specs.Layout.{parts, fitted}
 use Rattle.reader.specs.Lists.{numbersFrom, filterb, memberb}
 use Rattle.hashes.specs.Table.{storedStart, storedHash, bucketOf, namesFrom, run}
+use Rattle.tables.specs.declared.Incomplete.{Incomplete}
 use Rattle.tables.specs.declared.TableCheck.{TableCheck}
 
 -- what the check says
 pub data Checked : Type 0 where
   no-table : Checked
   complete : Checked
-  -- with the number of missed names
-  incomplete : ℕ → Checked
+  -- with how many names are missed, the smallest number among them, and the hash that is stored for that name
+  incomplete : Incomplete → Checked
 
 -- the outcome that the code's answer stands for
 abbrev pub checkOutcome : TableCheck → Outcome Checked
 checkOutcome TableCheck.NoTable = answered no-table
 checkOutcome TableCheck.Complete = answered complete
-checkOutcome (TableCheck.Incomplete n) = answered (incomplete (n .missed))
+checkOutcome (TableCheck.Incomplete lost) = answered (incomplete lost)
 checkOutcome (TableCheck.Refused e) = refusal e
 
--- whether a bucket's start is above N + 1, and whether some bucket has such a start
+-- whether a bucket's start is above N + 1, and whether some bucket has such a start: which of them is the lowest makes no difference, since
+-- the refusal is the same
 unfoldable pub startAbove : ℕ → (ℕ → ℕ) → ℕ → Bool
 startAbove names startOf bucket = ltb (names + 1) (startOf bucket)
 
@@ -38,13 +40,14 @@ anyAbove names startOf buckets = ltb 0 (length (filterb (startAbove names startO
 unfoldable pub isMissed : RunTimeEndian → List ℕ → NameIndex → ℕ → Bool
 isMissed order s i name = not (memberb name (run order s i (bucketOf i (storedHash order s (parts i) name))))
 
--- the missed names
+-- the missed names, in the order of their numbers
 unfoldable pub missedNames : RunTimeEndian → List ℕ → NameIndex → List ℕ
 missedNames order s i = filterb (isMissed order s i) (namesFrom i 0)
 
--- complete where no name is missed
-unfoldable pub verdict : ℕ → Checked
-verdict missed = cond (eqb missed 0) complete (incomplete missed)
+-- complete where no name is missed; else how many are, the first of them, which has the smallest number, and the hash that is stored for it
+unfoldable pub verdict : (ℕ → ℕ) → List ℕ → Checked
+verdict hashOf [] = complete
+verdict hashOf (name ∷ more) = incomplete (record { missed = length (name ∷ more); name = record { 0 = name }; hash = hashOf name })
 
 unfoldable pub tableCheck : RunTimeEndian → List ℕ → NameIndex → Outcome Checked
 tableCheck order s i = do
@@ -53,4 +56,4 @@ tableCheck order s i = do
       (answered no-table)
       (do
         refuseIf (anyAbove (i .«name_count») (storedStart order s p) (i .«bucket_count»)) 1 (p .«hash_table_data»)
-        answered (verdict (length (missedNames order s i))))
+        answered (verdict (storedHash order s p) (missedNames order s i)))

@@ -1,5 +1,6 @@
--- What the table check answers. Check: the check, by the names that are missed. Segments: how the names are passed. Demand3: when a table
--- is complete.
+-- What the table check answers. Check: the check, by the names that are missed. Segments: how the loop goes through the names. Demand3: when a table
+-- is complete. Sanity: what an incomplete answer names.
 pub mod Check
 pub mod Segments
 pub mod Demand3
+pub mod Sanity

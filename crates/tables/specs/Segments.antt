@@ -1,18 +1,27 @@
--- How the names are passed to count those that are missed: in segments, rows of names that follow one another in one bucket.
-use Prim.Native.Nat.{ℕ, _-_}
-use mathlib.Core.Bool.{cond}
-use lib.Dec.{ltb, leb, eqb}
+-- How the loop goes through the names to find those that are missed: in segments, rows of names that follow one another in one bucket. What it
+-- answers is defined in Check.
+use Prim.Native.Nat.{ℕ, _+_, _-_}
+use mathlib.Core.Bool.{Bool, false, cond}
+use lib.Dec.{leb, eqb}
 use Rattle.index.specs.declared.layout.NameIndex.{NameIndex}
 use Rattle.hashes.specs.Table.{bucketOf}
 use Rattle.tables.specs.declared.Segment.{Segment}
+use Rattle.tables.specs.declared.Count.{Count}
 
--- the segment of a name that stores the hash: that of the name before it, or a new one
+-- the segment of a name that stores the hash: that of the name before it where the bucket is the same, else a new one, which this name begins
 unfoldable pub followed : NameIndex → (ℕ → ℕ) → Segment → ℕ → ℕ → Segment
 followed i startOf before name hash = cond (eqb (bucketOf i hash) (before .bucket))
     before
     (record { bucket = bucketOf i hash; first = name; start = startOf (bucketOf i hash) })
 
--- A bucket's run reaches a name of the segment if it starts in the segment, at the name or before it: one name is missed where it starts
--- before the segment (a start of 0 is none) or past the name.
-unfoldable pub missesAt : Segment → ℕ → ℕ
-missesAt segment name = cond (leb (segment .start) (segment .first)) 1 (cond (ltb name (segment .start - 1)) 1 0)
+-- A bucket's run reaches a name of the segment if it starts in the segment, at the name or before it. A start is one more than the number
+-- of a name, and 0 is none.
+unfoldable pub reachedIn : Segment → ℕ → Bool
+reachedIn segment name = cond (leb (segment .start) (segment .first)) false (leb (segment .start - 1) name)
+
+-- the missed names up to and with a name of the segment, from those before it: a name that is not reached is one more, and the smallest if it is
+-- the first; `least` says nothing while `missed` is 0
+unfoldable pub countedAt : Count → Segment → ℕ → Count
+countedAt before segment name = cond (reachedIn segment name)
+    before
+    (cond (eqb (before .missed) 0) (record { missed = 1; least = name }) (record { missed = before .missed + 1; least = before .least }))

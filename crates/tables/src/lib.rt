@@ -1,25 +1,29 @@
-// Whether the hash table of an index reaches every name (document 01, "Buckets and hashes": the table check, which gimli does not have).
+// Whether the hash table of an index reaches every name, and which is the first that it loses (document 01, "Buckets and hashes": the table check,
+// which gimli does not have; document 02, No. 2).
 //
 // A name is missed if the run of its own bucket does not reach it: a lookup by its hash then does not list it. The names are passed once,
 // in segments: a segment is a row of names that follow one another in one bucket. The run of a bucket goes no further than its first name of
 // another bucket, so it reaches a name exactly if it starts in that name's segment, at the name or before it.
 ghost use mathlib.Core.Path.{_≡_};
-ghost use Prim.Native.Nat.{_+_, _*_, _≤_};
+ghost use Prim.Native.Nat.{_+_, _*_, _^_, _≤_, _<_};
 ghost use lib.ListN.{length};
 ghost use Rattle.hashes.specs.Table.{nthOf, bucketOf};
 ghost use Rattle.tables.specs.Check.{checkOutcome, anyAbove, tableCheck};
-ghost use Rattle.tables.specs.Segments.{followed, missesAt};
+ghost use Rattle.tables.specs.Segments.{followed, reachedIn, countedAt};
 use hashes::bucket_of;
 use hashes::nth_u32;
 use index::NameIndex;
 use index::PartsRead;
 use index::fit;
 use reader::Error;
+use reader::NameTableIndex;
 use reader::RunTimeEndian;
 
-// What is wrong with an incomplete table: how many names it misses.
+// What is wrong with an incomplete table: how many names it misses, the smallest of their numbers, and the hash that is stored for that name.
 pub struct Incomplete {
     pub missed: u32,
+    pub name: NameTableIndex,
+    pub hash: u32,
 }
 
 // What the check of a table says.
@@ -37,6 +41,12 @@ pub struct Segment {
     pub bucket: u32,
     pub first: u32,
     pub start: u32,
+}
+
+// The missed names so far: how many, and the smallest of their numbers, which is 0 as long as there is none.
+pub struct Count {
+    pub missed: u32,
+    pub least: u32,
 }
 
 // Whether some bucket's start is above the number of names and one.
@@ -80,21 +90,38 @@ fn follow(
     }
 }
 
-// How many names are missed at a name of the segment: none if the run of the segment's bucket reaches it, and else one.
-fn misses(segment: Segment, name: u32) -> u32
-    ensures { λ r. ⌜ r ≡ missesAt segment name ⌝ }
+// Whether the run of the segment's bucket reaches a name of the segment.
+fn reached(segment: Segment, name: u32) -> bool
+    ensures { λ r. ⌜ r ≡ reachedIn segment name ⌝ }
 {
     if segment.start <= segment.first {
-        return 1;
+        return false;
     }
-    if name < segment.start - 1 {
-        return 1;
+    segment.start - 1 <= name
+}
+
+// The missed names up to and with a name of the segment, from those before it, whose number has room for one more.
+fn counted(before: Count, segment: Segment, name: u32) -> Count
+    requires { ⌜ before .missed + 1 < 2 ^ 32 ⌝ }
+    ensures { λ r. ⌜ r ≡ countedAt before segment name ⌝ }
+{
+    if reached(segment, name) {
+        return before;
     }
-    0
+    if before.missed == 0 {
+        return Count {
+            missed: 1,
+            least: name,
+        };
+    }
+    Count {
+        missed: before.missed + 1,
+        least: before.least,
+    }
 }
 
 // Whether lookups by hash list every name: no table, a refusal for a start above the number of names and one, complete, or incomplete with
-// the number of names that are missed.
+// the number of names that are missed, the smallest of them and its hash.
 pub fn check_table(order: RunTimeEndian, section: &[u8], index: NameIndex) -> TableCheck
     ensures { λ r. ⌜ checkOutcome r ≡ tableCheck order (now (section .entry)) index ⌝ }
 {
@@ -116,16 +143,24 @@ pub fn check_table(order: RunTimeEndian, section: &[u8], index: NameIndex) -> Ta
         first: 0,
         start: 0,
     };
-    let mut missed: u32 = 0;
+    let mut passed = Count {
+        missed: 0,
+        least: 0,
+    };
     let mut name: u32 = 0;
     while name < index.name_count {
         let hash = nth_u32(order, section, hashes, name);
         segment = follow(order, section, index, starts, segment, name, hash);
-        missed = missed + misses(segment, name);
+        passed = counted(passed, segment, name);
         name = name + 1;
     }
-    if missed == 0 {
+    if passed.missed == 0 {
         return TableCheck::Complete;
     }
-    TableCheck::Incomplete(Incomplete { missed: missed })
+    let hash = nth_u32(order, section, hashes, passed.least);
+    TableCheck::Incomplete(Incomplete {
+        missed: passed.missed,
+        name: NameTableIndex(passed.least),
+        hash: hash,
+    })
 }

@@ -1,12 +1,12 @@
 //! The hash table of an index: buckets, hashes and their steps, and the table check.
 
 use crate::desk::Desk;
-use crate::ffi::{Answer, BucketStep, HashCursor, HashStep};
+use crate::ffi::{Answer, BucketStep, HashCursor, HashStep, Table};
 use crate::tally::Call;
 use crate::twin::Twin;
 use gimli::hashes::{first_name, missed, stored};
 use gimli::lent::Bytes;
-use gimli::{NameBucketIter, NameHashIter};
+use gimli::{NameBucketIter, NameHashIter, NameTableIndex};
 use std::fmt::Debug;
 
 /// No more steps than this are made of a cursor.
@@ -33,12 +33,31 @@ pub fn table(desk: &mut Desk, twin: &Twin) {
         any_bucket_cursor(desk, twin, &stored);
         any_hash_cursor(desk, twin, &stored);
     }
-    let check = twin.view.answer(missed(&twin.index, &stored), |missed| match missed {
-        None => (0, 0),
-        Some(0) => (1, 0),
-        Some(count) => (2, count as u64),
-    });
-    desk.same(Call::CheckTable, String::new, desk.ours.check_table(desk.index), check);
+    check(desk, twin, &stored);
+}
+
+/// The table check.
+fn check(desk: &mut Desk, twin: &Twin, stored: &[u32]) {
+    let answer = missed(&twin.index, stored);
+    let expected = match answer.as_ref().map(Option::as_deref) {
+        Ok(None) => Table::default(),
+        Ok(Some([])) => Table { kind: 1, ..Table::default() },
+        Ok(Some(missed @ [(name, hash), ..])) => Table { status: 0, kind: 2, value: missed.len() as u64, name: name.0, hash: *hash },
+        Err(error) => {
+            let Answer { status, value, .. } = twin.view.refusal(*error);
+            Table { status, value, ..Table::default() }
+        }
+    };
+    desk.same(Call::CheckTable, String::new, desk.ours.check_table(desk.index), expected);
+    if answer.is_ok_and(|missed| crosses(twin, &missed.unwrap_or_default())) {
+        desk.tally.other("a lost name not of the lowest bucket");
+    }
+}
+
+/// Whether the first of the missed names is in a higher bucket than another of them.
+fn crosses(twin: &Twin, missed: &[(NameTableIndex, u32)]) -> bool {
+    let buckets: Vec<u32> = missed.iter().map(|(_, hash)| hash % twin.index.bucket_count()).collect();
+    buckets.first() > buckets.iter().min()
 }
 
 /// Stored hashes, near misses of them, small ones, the largest, and any.

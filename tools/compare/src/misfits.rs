@@ -1,7 +1,7 @@
 //! All calls on a handle where each is refused alike: one that does not fit, or any handle with a section that is too long.
 
 use crate::desk::{Desk, refused};
-use crate::ffi::{Answer, BucketStep, HashCursor, HashStep, IndexHandle, Str};
+use crate::ffi::{Answer, BucketStep, HashCursor, HashStep, IndexHandle, Str, Table};
 use crate::hashes::normal;
 use crate::ours::Ours;
 use crate::tally::Call;
@@ -10,7 +10,7 @@ use crate::twin::refused_entry;
 /// A call on a handle with a number behind it.
 type Numbered = fn(&Ours, IndexHandle, u32) -> Answer;
 
-const CALLS: [(Call, Numbered); 16] = [
+const CALLS: [(Call, Numbered); 15] = [
     (Call::CompileUnitCount, |ours, index, _| ours.compile_unit_count(index)),
     (Call::LocalTypeUnitCount, |ours, index, _| ours.local_type_unit_count(index)),
     (Call::ForeignTypeUnitCount, |ours, index, _| ours.foreign_type_unit_count(index)),
@@ -25,7 +25,6 @@ const CALLS: [(Call, Numbered); 16] = [
     (Call::DefaultCompileUnit, |ours, index, _| ours.default_compile_unit(index)),
     (Call::NameStringOffset, |ours, index, number| ours.name_string_offset(index, number)),
     (Call::FindByBucket, |ours, index, number| ours.find_by_bucket(index, number)),
-    (Call::CheckTable, |ours, index, _| ours.check_table(index)),
     (Call::NameEntries, |ours, index, number| ours.name_entries(index, number)),
 ];
 
@@ -42,6 +41,7 @@ pub fn refuse_all(desk: &mut Desk, status: u32) {
     desk.same(Call::NextInBucket, words, ours.next_in_bucket(index, number, number), step);
     let lookup = HashStep { status, ..HashStep::default() };
     desk.same(Call::FindByHash, words, ours.find_by_hash(index, number), lookup);
+    desk.same(Call::CheckTable, words, ours.check_table(index), Table { status, ..Table::default() });
     let cursor = HashCursor { hash: number, has_bucket: desk.random.pick(&[1, 1, 0, 2]), bucket: 3, name: number };
     let step = HashStep { status, next: normal(cursor), ..HashStep::default() };
     desk.same(Call::NextByHash, || format!("{cursor:?}"), ours.next_by_hash(index, cursor), step);

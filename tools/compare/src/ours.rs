@@ -59,7 +59,7 @@ impl Ours<'_> {
         next_in_bucket debug_names_next_in_bucket(bucket: u32, name: u32) -> BucketStep
         find_by_hash debug_names_find_by_hash(hash: u32) -> HashStep
         next_by_hash debug_names_next_by_hash(cursor: HashCursor) -> HashStep
-        check_table debug_names_check_table() -> Answer
+        check_table debug_names_check_table() -> Table
         name_entries debug_names_name_entries(name: u32) -> Answer
         next_entry debug_names_next_entry(at: usize) -> Entry
         name_entry debug_names_name_entry(offset: usize) -> Entry

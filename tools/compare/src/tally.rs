@@ -57,7 +57,7 @@ calls! {
 }
 
 /// What else a long run must meet.
-pub const ELSE: [&str; 15] = [
+pub const ELSE: [&str; 16] = [
     "query: total 0",
     "query: total within the records lent",
     "query: total above the records lent",
@@ -71,6 +71,7 @@ pub const ELSE: [&str; 15] = [
     "record: no DIE offset",
     "record: a DIE offset",
     "a step after an end gives a name",
+    "a lost name not of the lowest bucket",
     "a table that was never read whole",
     "entries behind numbers longer than gimli's",
 ];
@@ -180,7 +181,7 @@ macro_rules! told {
     };
 }
 
-told! { Answer HeaderStep Header Str BucketStep HashStep }
+told! { Answer HeaderStep Header Str BucketStep HashStep Table }
 
 impl Told for Entry {
     fn answer(&self) -> Answer {

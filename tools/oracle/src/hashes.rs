@@ -1,5 +1,5 @@
-//! gimli's answers to the calls on the hash table of an index: the names of each bucket, the names that store a hash, and document 01's
-//! table check. gimli has no such check: it is worked out here from gimli's answers.
+//! gimli's answers to the calls on the hash table of an index: the names of each bucket, the names that store a hash, and the table check
+//! of documents 01 and 02. gimli has no such check: it is worked out here from gimli's answers.
 
 use crate::answers::{Answers, MOST};
 use crate::lent::{Bytes, Lent};
@@ -112,10 +112,10 @@ fn step(lent: &Lent, call: &str, out: &mut Answers, answer: gimli::Result<Option
 
 /// The line of the table check.
 fn check(lent: &Lent, index: &NameIndex<Bytes>, stored: &[u32], out: &mut Answers) {
-    let answer = missed(index, stored).map(|missed| match missed {
+    let answer = missed(index, stored).map(|missed| match missed.as_deref() {
         None => "none".to_string(),
-        Some(0) => "complete".to_string(),
-        Some(count) => format!("missed {count}"),
+        Some([]) => "complete".to_string(),
+        Some([(name, hash), others @ ..]) => format!("missed {} {} {hash}", 1 + others.len(), name.0),
     });
     if let Some(kind) = answer.as_ref().ok().and_then(|text| text.split(' ').next()) {
         out.kind(&format!("table: {kind}"));
@@ -123,9 +123,9 @@ fn check(lent: &Lent, index: &NameIndex<Bytes>, stored: &[u32], out: &mut Answer
     out.call(lent, "table", "", answer);
 }
 
-/// How many names are not in the run of their own bucket; none where there is no table. A bucket that is refused is the answer, of
-/// several the lowest.
-pub fn missed(index: &NameIndex<Bytes>, stored: &[u32]) -> gimli::Result<Option<usize>> {
+/// The names that are not in the run of their own bucket, in the order of their numbers, each with the hash that it stores; none where
+/// there is no table. A bucket that is refused is the answer, of several the lowest.
+pub fn missed(index: &NameIndex<Bytes>, stored: &[u32]) -> gimli::Result<Option<Vec<(NameTableIndex, u32)>>> {
     if !index.has_hash_table() {
         return Ok(None);
     }
@@ -134,8 +134,8 @@ pub fn missed(index: &NameIndex<Bytes>, stored: &[u32]) -> gimli::Result<Option<
         runs.push(run(index, bucket)?);
     }
     let own = |hash: &u32| &runs[(hash % index.bucket_count()) as usize];
-    let missed = index.names().zip(stored).filter(|(name, hash)| !own(hash).contains(name));
-    Ok(Some(missed.count()))
+    let names = index.names().zip(stored.iter().copied());
+    Ok(Some(names.filter(|(name, hash)| !own(hash).contains(name)).collect()))
 }
 
 /// The names that a bucket's cursor gives up to its first end.

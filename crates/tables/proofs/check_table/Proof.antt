@@ -1,22 +1,21 @@
--- `tables::check_table` meets its contract: the starts are tested by `any_above`; then each turn counts one name by its segment (`counting-next`), and after the last name all missed ones were counted (`counting-last`).
+-- `tables::check_table` meets its contract: the starts are tested by `any_above`; then each turn counts one name by its segment (`counting-next`), and after the last name the verdict follows from the count (`none-counted`, `some-counted`).
 -- Assumes nothing.
 use Prim.Native.Nat.{_-_}
 use native.Mathlib.Omega.{arith}
-use Rattle.hashes.specs.Table.{storedStart}
+use Rattle.hashes.specs.Table.{storedStart, storedHash}
 use Rattle.hashes.proofs.TableLaws.{starts-within}
-use Rattle.tables.proofs.SegmentLaws.{misses-most}
-use Rattle.tables.proofs.CheckLaws.{Counting, counting-first, hash-inside, start-inside, counting-next, counting-last}
+use Rattle.tables.proofs.CheckLaws.{Counting, counting-first, hash-inside, start-inside, missed-most, counting-next, none-counted, some-counted, least-below}
 use borrow.Author.Needs.{needs}
 use borrow.Author.Tests.{eq-eqb, ne-eqb}
-use Rattle.tables.specs.Check.{tableCheck, verdict}
+use Rattle.tables.specs.Check.{tableCheck}
 use Rattle.tables.proofs.check_table.Statement.{statement}
 use Rattle.tables.proofs.check_table.Tie as tie
 
 abbrev Inv-loop : tie.InvT-loop
-Inv-loop order section index starts hashes segment₀ missed₀ name₀ segment missed name = Counting order section index starts hashes segment missed name
+Inv-loop order section index starts hashes segment₀ passed₀ name₀ segment passed name = Counting order section index starts hashes segment passed name
 
 abbrev μ-loop : tie.MeasureT-loop
-μ-loop order section index starts hashes segment₀ missed₀ name₀ segment missed name = index .«name_count» - name
+μ-loop order section index starts hashes segment₀ passed₀ name₀ segment passed name = index .«name_count» - name
 
 fit-requires : tie.Need-fit-requires Inv-loop μ-loop
 fit-requires c κs = search needs
@@ -28,7 +27,7 @@ enum-known-e : tie.Need-enum-known-e Inv-loop μ-loop
 enum-known-e c = search needs
 
 returns : tie.Need-returns Inv-loop μ-loop
-unfolding tableCheck verdict storedStart
+unfolding tableCheck storedStart
 returns c =
     rw (
       ← c .before .before .before .fit .ensures,
@@ -36,7 +35,7 @@ returns c =
     )
 
 returns-2 : tie.Need-returns-2 Inv-loop μ-loop
-unfolding tableCheck verdict storedStart
+unfolding tableCheck storedStart
 returns-2 c =
     rw (
       ← c .before .before .before .before .before .fit .ensures,
@@ -48,7 +47,7 @@ any-above-requires : tie.Need-any-above-requires Inv-loop μ-loop
 any-above-requires c κs = starts-within _ _ _ (rw (c .before .before .before .p .given .1) at (c .before .before .before .before .before .fit .ensures))
 
 returns-3 : tie.Need-returns-3 Inv-loop μ-loop
-unfolding tableCheck verdict storedStart
+unfolding tableCheck storedStart
 returns-3 c =
     rw (
       ← c .before .before .before .before .before .before .before .fit .ensures,
@@ -62,18 +61,15 @@ loop-holds : tie.Need-loop-holds Inv-loop μ-loop
 loop-holds c = counting-first _ _ _ _ (rw (c .before .before .before .before .before .p .given .1) at (c .before .before .before .before .before .before .before .fit .ensures)) (c .before .before .if1 .left)
 
 nth-u32-requires : tie.Need-nth-u32-requires Inv-loop μ-loop
-nth-u32-requires c κs = hash-inside _ _ _ _ _ _ _ _ (c .before .before .loop .inv) (c .if3 .taken)
+nth-u32-requires c κs = hash-inside _ _ _ _ _ _ _ _ (c .before .before .loop .inv) _ (c .if3 .taken)
 
 follow-requires : tie.Need-follow-requires Inv-loop μ-loop
 follow-requires c κs = start-inside _ _ _ _ _ _ _ _ (c .before .before .before .loop .inv) _
 
-misses-requires : tie.Need-misses-requires Inv-loop μ-loop
-misses-requires c κs = search needs
-
-add-missed : tie.Need-add-missed Inv-loop μ-loop
-add-missed c =
-    let most = misses-most _ _ _ (c .misses .ensures) in
-    let least = c .before .before .before .before .before .loop .inv .least in
+counted-requires : tie.Need-counted-requires Inv-loop μ-loop
+counted-requires c κs =
+    let most = missed-most _ _ _ _ _ _ _ _ (c .before .before .before .before .loop .inv) in
+    let below = c .before .before .if3 .taken in
     omega arith
 
 add-name : tie.Need-add-name Inv-loop μ-loop
@@ -85,36 +81,40 @@ loop-less c = omega arith
 loop-again : tie.Need-loop-again Inv-loop μ-loop
 loop-again c =
     rw (
-      c .misses .ensures,
+      c .counted .ensures,
       c .before .follow .ensures,
       c .before .before .nth-u32 .ensures,
     )
     (counting-next _ _ _ _ _ _ _ _ (c .before .before .before .before .before .loop .inv) (c .before .before .before .if3 .taken))
 
 returns-4 : tie.Need-returns-4 Inv-loop μ-loop
-unfolding tableCheck verdict storedStart
+unfolding tableCheck storedStart
 returns-4 c =
     rw (
-      ← c .before .before .before .before .before .before .before .before .before .before .before .fit .ensures,
-      c .before .before .before .before .before .before .before .before .before .p .given .1,
-      ne-eqb _ _ (c .before .before .before .before .before .before .if1 .left),
-      ← c .before .before .before .before .before .any-above .ensures,
-      c .before .before .before .before .if2 .left,
-      counting-last _ _ _ _ _ _ _ _ (c .before .before .before .loop .inv) (c .before .if3 .left),
-      eq-eqb _ _ (c .if4 .taken),
+      ← c .before .before .before .before .before .before .before .before .before .before .before .before .fit .ensures,
+      c .before .before .before .before .before .before .before .before .before .before .p .given .1,
+      ne-eqb _ _ (c .before .before .before .before .before .before .before .if1 .left),
+      ← c .before .before .before .before .before .before .any-above .ensures,
+      c .before .before .before .before .before .if2 .left,
+      none-counted _ _ _ _ _ _ _ _ (c .before .before .before .before .loop .inv) _ (c .before .before .if3 .left) (c .if4 .taken),
     )
 
+nth-u32-requires-2 : tie.Need-nth-u32-requires-2 Inv-loop μ-loop
+nth-u32-requires-2 c κs =
+    let inv = c .before .before .before .before .loop .inv in
+    hash-inside _ _ _ _ _ _ _ _ inv _ (least-below _ _ _ _ _ _ _ _ inv (c .if4 .left))
+
 returns-5 : tie.Need-returns-5 Inv-loop μ-loop
-unfolding tableCheck verdict storedStart
+unfolding tableCheck storedStart storedHash
 returns-5 c =
     rw (
-      ← c .before .before .before .before .before .before .before .before .before .before .before .fit .ensures,
-      c .before .before .before .before .before .before .before .before .before .p .given .1,
-      ne-eqb _ _ (c .before .before .before .before .before .before .if1 .left),
-      ← c .before .before .before .before .before .any-above .ensures,
-      c .before .before .before .before .if2 .left,
-      counting-last _ _ _ _ _ _ _ _ (c .before .before .before .loop .inv) (c .before .if3 .left),
-      ne-eqb _ _ (c .if4 .left),
+      ← c .before .before .before .before .before .before .before .before .before .before .before .before .before .fit .ensures,
+      c .before .before .before .before .before .before .before .before .before .before .before .p .given .1,
+      ne-eqb _ _ (c .before .before .before .before .before .before .before .before .if1 .left),
+      ← c .before .before .before .before .before .before .before .any-above .ensures,
+      c .before .before .before .before .before .before .if2 .left,
+      some-counted _ _ _ _ _ _ _ _ (c .before .before .before .before .before .loop .inv) _ (c .before .before .before .if3 .left) (c .before .if4 .left),
+      ← c .nth-u322 .ensures,
     )
 
 pub check-table-spec : {M : Type 1} → statement M
@@ -133,10 +133,10 @@ check-table-spec =
     loop-holds
     nth-u32-requires
     follow-requires
-    misses-requires
-    add-missed
+    counted-requires
     add-name
     loop-less
     loop-again
     returns-4
+    nth-u32-requires-2
     returns-5)

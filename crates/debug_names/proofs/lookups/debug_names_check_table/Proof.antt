@@ -13,8 +13,8 @@ index-of-requires c κs = search needs
 check-table-requires : tie.Need-check-table-requires
 check-table-requires c κs = search needs
 
-check-answer-requires : tie.Need-check-answer-requires
-check-answer-requires c κs = search needs
+table-answer-requires : tie.Need-table-answer-requires
+table-answer-requires c κs = search needs
 
 returns : tie.Need-returns
 returns c =
@@ -22,7 +22,7 @@ returns c =
       ← c .before .before .before .order-of .ensures,
       ← c .before .before .index-of .ensures,
       ← c .before .check-table .ensures,
-      ← c .check-answer .ensures,
+      ← c .table-answer .ensures,
     )
 
 pub debug-names-check-table-spec : {M : Type 1} → statement M
@@ -32,5 +32,5 @@ debug-names-check-table-spec =
     order-of-requires
     index-of-requires
     check-table-requires
-    check-answer-requires
+    table-answer-requires
     returns)

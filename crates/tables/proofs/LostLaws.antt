@@ -1,0 +1,125 @@
+-- What an incomplete answer of the check names: the smallest of the missed names, which a lookup of its hash does not list.
+use Prim.Native.Nat.{ℕ, _-_, _≤_, _<_}
+use mathlib.Core.Path.{_≡_, refl, sym, ap, _∙_}
+use mathlib.Core.Bool.{Bool, true, false, not}
+use mathlib.Core.Logic.{⊎-elim}
+use mathlib.Core.List.{List, [], _∷_}
+use native.Mathlib.Omega.{arith}
+use lib.ListN.{length}
+use lib.Dec.{ltb, eqb}
+use borrow.Author.Tests.{ltb-true, ltb-false, eq-eqb}
+use Rattle.reader.specs.Errors.{longest}
+use Rattle.reader.specs.Lists.{numbersFrom, memberb}
+use Rattle.reader.specs.declared.endianity.RunTimeEndian.{RunTimeEndian}
+use Rattle.reader.proofs.ListLaws.{false-true, filter-first, member-filter, filter-member, member-holds, member-numbers, numbers-member}
+use Rattle.index.specs.declared.layout.NameIndex.{NameIndex}
+use Rattle.index.specs.Layout.{parts, Fits}
+use Rattle.hashes.specs.Table.{storedStart, storedHash, bucketOf, namesFrom, run, storing, namesOfHash, allStoring}
+use Rattle.tables.specs.declared.Incomplete.{Incomplete}
+use Rattle.tables.specs.declared.TableCheck.{TableCheck}
+use Rattle.tables.specs.Check.{Checked, no-table, incomplete, checkOutcome, anyAbove, isMissed, missedNames, verdict, tableCheck}
+use Rattle.tables.specs.Sanity.{MissedExactly, MissedTold, LostLeast, ListsWithout, LostNotListed}
+use Rattle.tables.proofs.CheckLaws.{check-answered}
+use Rattle.tables.proofs.CompleteLaws.{steps-name, lookup-ends}
+
+-- what a truth value is by its opposite
+not-false : (t : Bool) → t ≡ false → not t ≡ true
+not-false true e = absurd (false-true (sym e))
+not-false false e = refl
+
+not-true : (t : Bool) → not t ≡ true → t ≡ false
+not-true true e = absurd (false-true e)
+not-true false e = refl
+
+never-true : (t : Bool) → (t ≡ true → ⊥) → t ≡ false
+never-true true never = absurd (never refl)
+never-true false never = refl
+
+pub missed-exactly : MissedExactly
+unfolding missedNames namesFrom isMissed
+missed-exactly order s i name = (
+  λ h.
+      let (above, below) = numbers-member name 0 (i .«name_count» - 0) (member-filter (isMissed order s i) name (numbersFrom 0 (i .«name_count» - 0)) h) in
+      (omega arith, not-true _ (member-holds (isMissed order s i) name (numbersFrom 0 (i .«name_count» - 0)) h)),
+  λ (below, out). filter-member (isMissed order s i) name (numbersFrom 0 (i .«name_count» - 0)) (not-false _ out) (member-numbers name 0 (i .«name_count» - 0) (omega arith) (omega arith)),
+)
+
+module _ (order : RunTimeEndian) (s : List ℕ) (i : NameIndex) where
+  -- the first of the missed names is among them, and none of them has a smaller number
+  first-least : (name : ℕ) (more : List ℕ) → missedNames order s i ≡ name ∷ more
+      → (memberb name (missedNames order s i) ≡ true) × ((other : ℕ) → memberb other (missedNames order s i) ≡ true → name ≤ other)
+  unfolding missedNames namesFrom
+  first-least name more e =
+      let (above, below, missed, none) = filter-first (isMissed order s i) 0 (i .«name_count» - 0) name more e in (
+        filter-member (isMissed order s i) name (numbersFrom 0 (i .«name_count» - 0)) missed (member-numbers name 0 (i .«name_count» - 0) above below),
+        λ other h. not-below other none (member-holds (isMissed order s i) other (numbersFrom 0 (i .«name_count» - 0)) h) (ltb other name) refl,
+      )
+    where
+      not-below : (other : ℕ) → ((m : ℕ) → 0 ≤ m → m < name → isMissed order s i m ≡ false) → isMissed order s i other ≡ true → (t : Bool) → ltb other name ≡ t → name ≤ other
+      not-below other none h true less = absurd (false-true (sym (none other (omega arith) (ltb-true other name less)) ∙ h))
+      not-below other none h false most = ltb-false other name most
+
+  -- what the verdict names: the first of these names
+  verdict-names : (lost : Incomplete) (names : List ℕ) → verdict (storedHash order s (parts i)) names ≡ incomplete lost
+      → (more : List ℕ) × (names ≡ lost .name .0 ∷ more) × (lost .missed ≡ length names) × (lost .hash ≡ storedHash order s (parts i) (lost .name .0))
+  unfolding verdict
+  verdict-names lost [] said = let z : _≡_ {A = ℕ} 0 1 = cc in absurd (omega arith)
+  verdict-names lost (name ∷ more) said =
+      let named : Incomplete = record { missed = length (name ∷ more); name = record { 0 = name }; hash = storedHash order s (parts i) name } in
+      let same : named ≡ lost = cc in
+      rw (sym same) (more, refl, refl, refl)
+
+  -- where names are missed it names one
+  verdict-told : (name : ℕ) (names : List ℕ) → memberb name names ≡ true → (lost : Incomplete) × (verdict (storedHash order s (parts i)) names ≡ incomplete lost)
+  unfolding verdict memberb
+  verdict-told name [] h = absurd (false-true h)
+  verdict-told name (first ∷ more) h = (record { missed = length (first ∷ more); name = record { 0 = first }; hash = storedHash order s (parts i) first }, refl)
+
+  -- what the check has found where it answers incomplete
+  abbrev Found : Incomplete → Type 0
+  Found lost =
+      (length s ≤ longest) × Fits s i × (0 < i .«bucket_count») × (anyAbove (i .«name_count») (storedStart order s (parts i)) (i .«bucket_count») ≡ false)
+      × (verdict (storedHash order s (parts i)) (missedNames order s i) ≡ incomplete lost)
+
+  incomplete-found : (lost : Incomplete) → checkOutcome (TableCheck.Incomplete lost) ≡ tableCheck order s i → Found lost
+  incomplete-found lost e =
+      ⊎-elim
+      (λ (no-buckets, same). let z : _≡_ {A = ℕ} 0 1 = cc in absurd (omega arith))
+      (λ found. found)
+      (check-answered order s i (incomplete lost) (sym e))
+
+pub missed-told : MissedTold
+missed-told order s i a name e buckets missed =
+    ⊎-elim
+    (λ (no-buckets, same). absurd (omega arith))
+    (λ (short, fits, some, none-above, said). let (lost, same) = verdict-told order s i name (missedNames order s i) missed in (lost, sym said ∙ same))
+    (check-answered order s i a (sym e))
+
+pub lost-least : LostLeast
+lost-least order s i lost e =
+    let (short, fits, buckets, none-above, said) = incomplete-found order s i lost e in
+    let (more, first, count, stored) = verdict-names order s i lost (missedNames order s i) said in
+    let (among, least) = first-least order s i (lost .name .0) more first in
+    (count, among, least, stored)
+
+pub lost-not-listed : LostNotListed
+unfolding allStoring namesOfHash storing namesFrom
+lost-not-listed order s i lost e =
+    let (short, fits, buckets, none-above, said) = incomplete-found order s i lost e in
+    let (count, among, least, stored) = lost-least order s i lost e in
+    let (below, out) = missed-exactly order s i (lost .name .0) .0 among in
+    let (c, given, reaches) = lookup-ends order s i short fits buckets none-above (lost .hash) in (
+      filter-member (λ n. eqb (storedHash order s (parts i) n) (lost .hash)) (lost .name .0) (numbersFrom 0 (i .«name_count» - 0)) (eq-eqb _ (lost .hash) (sym stored))
+          (member-numbers (lost .name .0) 0 (i .«name_count» - 0) (omega arith) (omega arith)),
+      (
+        c,
+        given,
+        reaches,
+        λ steps linked ended. (
+          namesOfHash order s i (lost .hash),
+          steps-name order s i (lost .hash) c steps given linked ended,
+          never-true _ (λ h.
+              false-true (sym out ∙ rw stored at (member-filter (λ n. eqb (storedHash order s (parts i) n) (lost .hash)) (lost .name .0) (run order s i (bucketOf i (lost .hash))) h))),
+        ),
+      ),
+    )
