@@ -6,7 +6,7 @@ use mathlib.Core.Logic.{_⊎_, inl, inr, ⊎-elim}
 use mathlib.Core.List.{List, [], _∷_, _++_, append-nil}
 use native.Mathlib.Omega.{arith}
 use lib.ListN.{length, length-append}
-use lib.Dec.{ltb, eqb}
+use lib.Dec.{ltb, leb, eqb}
 use borrow.Author.Tests.{lt-ltb, eqb-true, eqb-false, ne-eqb}
 use Rattle.reader.specs.Outcome.{answered, refuseIf}
 use Rattle.reader.specs.Errors.{longest}
@@ -22,7 +22,7 @@ use Rattle.reader.proofs.ListLaws.{numbers-length, filter-length, filter-step, 
 use Rattle.hashes.proofs.TableLaws.{buckets-end, hashes-end, strings-inside, bucket-below}
 use Rattle.tables.specs.declared.Segment.{Segment}
 use Rattle.tables.specs.declared.Count.{Count}
-use Rattle.tables.specs.Segments.{followed, reachedIn, countedAt}
+use Rattle.tables.specs.Segments.{followed, countedAt}
 use Rattle.tables.proofs.SegmentLaws.{Before, before-first, before-next, followed-bucket, reached-member}
 use Rattle.tables.specs.Check.{Checked, no-table, complete, incomplete, startAbove, anyAbove, isMissed, missedNames, verdict, tableCheck}
 
@@ -144,7 +144,7 @@ pub record Counting (order : RunTimeEndian) (s : List ℕ) (i : NameIndex) (star
   pub before : Before i (storedStart order s (parts i)) (storedHash order s (parts i)) name g
 
 pub counting-first : (order : RunTimeEndian) (s : List ℕ) (i : NameIndex) (p : Parts) → answered p ≡ fitted s i → (i .«bucket_count» ≡ 0 → ⊥)
-    → Counting order s i (p .«bucket_data») (p .«hash_table_data») (record { bucket = i .«bucket_count»; first = 0; start = 0 }) (record { missed = 0; least = 0 }) 0
+    → Counting order s i (p .«bucket_data») (p .«hash_table_data») (record { bucket = i .«bucket_count»; from = 0 }) (record { missed = 0; least = 0 }) 0
 unfolding missedBelow kept filterb numbersFrom
 counting-first order s i p given other =
     let (short, fits, same) = fitted-answered s i p (sym given) in
@@ -193,7 +193,7 @@ module _ (order : RunTimeEndian) (s : List ℕ) (i : NameIndex) (starts hashes :
       next : Before i (storedStart order s (parts i)) (storedHash order s (parts i)) (name + 1) after
       next = before-next i (storedStart order s (parts i)) (storedHash order s (parts i)) name g (k .before)
 
-      here : reachedIn after name ≡ memberb name (run order s i (bucketOf i (storedHash order s (parts i) name)))
+      here : leb (after .from) name ≡ memberb name (run order s i (bucketOf i (storedHash order s (parts i) name)))
       here =
           reached-member i (storedStart order s (parts i)) (storedHash order s (parts i)) name after next
           (followed-bucket i (storedStart order s (parts i)) (storedHash order s (parts i)) name g) below (k .some)

@@ -1,27 +1,27 @@
 -- How the loop goes through the names to find those that are missed: in segments, rows of names that follow one another in one bucket. What it
 -- answers is defined in Check.
 use Prim.Native.Nat.{ℕ, _+_, _-_}
-use mathlib.Core.Bool.{Bool, false, cond}
+use mathlib.Core.Bool.{cond}
 use lib.Dec.{leb, eqb}
 use Rattle.index.specs.declared.layout.NameIndex.{NameIndex}
 use Rattle.hashes.specs.Table.{bucketOf}
 use Rattle.tables.specs.declared.Segment.{Segment}
 use Rattle.tables.specs.declared.Count.{Count}
 
+-- Of a segment that begins with the name `first`, the first name that a run with this start reaches: a start is one more than the number of a
+-- name. A run that starts before the segment has ended before it, and a start of 0 is none: then it is N, which is no name.
+unfoldable pub reachedFrom : NameIndex → ℕ → ℕ → ℕ
+reachedFrom i start first = cond (leb start first) (i .«name_count») (start - 1)
+
 -- the segment of a name that stores the hash: that of the name before it where the bucket is the same, else a new one, which this name begins
 unfoldable pub followed : NameIndex → (ℕ → ℕ) → Segment → ℕ → ℕ → Segment
 followed i startOf before name hash = cond (eqb (bucketOf i hash) (before .bucket))
     before
-    (record { bucket = bucketOf i hash; first = name; start = startOf (bucketOf i hash) })
-
--- A bucket's run reaches a name of the segment if it starts in the segment, at the name or before it. A start is one more than the number
--- of a name, and 0 is none.
-unfoldable pub reachedIn : Segment → ℕ → Bool
-reachedIn segment name = cond (leb (segment .start) (segment .first)) false (leb (segment .start - 1) name)
+    (record { bucket = bucketOf i hash; from = reachedFrom i (startOf (bucketOf i hash)) name })
 
 -- the missed names up to and with a name of the segment, from those before it: a name that is not reached is one more, and the smallest if it is
 -- the first; `least` says nothing while `missed` is 0
 unfoldable pub countedAt : Count → Segment → ℕ → Count
-countedAt before segment name = cond (reachedIn segment name)
+countedAt before segment name = cond (leb (segment .from) name)
     before
     (cond (eqb (before .missed) 0) (record { missed = 1; least = name }) (record { missed = before .missed + 1; least = before .least }))

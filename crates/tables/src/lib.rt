@@ -9,7 +9,7 @@ ghost use Prim.Native.Nat.{_+_, _*_, _^_, _≤_, _<_};
 ghost use lib.ListN.{length};
 ghost use Rattle.hashes.specs.Table.{nthOf, bucketOf};
 ghost use Rattle.tables.specs.Check.{checkOutcome, anyAbove, tableCheck};
-ghost use Rattle.tables.specs.Segments.{followed, reachedIn, countedAt};
+ghost use Rattle.tables.specs.Segments.{reachedFrom, followed, countedAt};
 use hashes::bucket_of;
 use hashes::nth_u32;
 use index::NameIndex;
@@ -36,11 +36,11 @@ pub enum TableCheck {
     Refused(Error),
 }
 
-// The names that precede a name without a break in one bucket: the bucket, the first of them, and the bucket's stored start.
+// The names that precede a name without a break in one bucket: the bucket, and the first of them that its run reaches, or else the number of
+// names, which is no name.
 pub struct Segment {
     pub bucket: u32,
-    pub first: u32,
-    pub start: u32,
+    pub from: u32,
 }
 
 // The missed names so far: how many, and the smallest of their numbers, which is 0 as long as there is none.
@@ -66,6 +66,16 @@ fn any_above(order: RunTimeEndian, section: &[u8], starts: usize, buckets: u32, 
     false
 }
 
+// Of a segment that begins with the name `first`, the first name that a run with this start reaches, or else the number of names.
+fn reached_from(index: NameIndex, start: u32, first: u32) -> u32
+    ensures { λ r. ⌜ r ≡ reachedFrom index start first ⌝ }
+{
+    if start <= first {
+        return index.name_count;
+    }
+    start - 1
+}
+
 // The segment of a name that stores the hash, from the segment of the name before it.
 fn follow(
     order: RunTimeEndian,
@@ -83,21 +93,11 @@ fn follow(
     if bucket == before.bucket {
         return before;
     }
+    let start = nth_u32(order, section, starts, bucket);
     Segment {
         bucket: bucket,
-        first: name,
-        start: nth_u32(order, section, starts, bucket),
+        from: reached_from(index, start, name),
     }
-}
-
-// Whether the run of the segment's bucket reaches a name of the segment.
-fn reached(segment: Segment, name: u32) -> bool
-    ensures { λ r. ⌜ r ≡ reachedIn segment name ⌝ }
-{
-    if segment.start <= segment.first {
-        return false;
-    }
-    segment.start - 1 <= name
 }
 
 // The missed names up to and with a name of the segment, from those before it, whose number has room for one more.
@@ -105,7 +105,7 @@ fn counted(before: Count, segment: Segment, name: u32) -> Count
     requires { ⌜ before .missed + 1 < 2 ^ 32 ⌝ }
     ensures { λ r. ⌜ r ≡ countedAt before segment name ⌝ }
 {
-    if reached(segment, name) {
+    if segment.from <= name {
         return before;
     }
     if before.missed == 0 {
@@ -140,8 +140,7 @@ pub fn check_table(order: RunTimeEndian, section: &[u8], index: NameIndex) -> Ta
     // Before the first name the segment has a bucket that no name has, so that the first name begins a segment.
     let mut segment = Segment {
         bucket: index.bucket_count,
-        first: 0,
-        start: 0,
+        from: 0,
     };
     let mut passed = Count {
         missed: 0,
