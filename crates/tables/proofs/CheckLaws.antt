@@ -1,6 +1,7 @@
--- Laws of the check: the starts, one at a time; the missed names, one at a time; the verdict; and what the loop keeps from turn to turn.
+-- Laws of the check: the starts, one at a time; the missed names, all of them and one at a time; the verdict; and what the loop keeps from turn to
+-- turn.
 use Prim.Native.Nat.{ℕ, suc, _+_, _-_, _*_, _≤_, _<_}
-use mathlib.Core.Path.{_≡_, refl, sym, ap, _∙_}
+use mathlib.Core.Path.{_≡_, refl, sym, ap}
 use mathlib.Core.Bool.{Bool, true, false, not, cond}
 use mathlib.Core.Logic.{_⊎_, inl, inr, ⊎-elim}
 use mathlib.Core.List.{List, [], _∷_, _++_, append-nil}
@@ -18,12 +19,13 @@ use Rattle.index.specs.Layout.{parts, Fits, fitted}
 use Rattle.index.proofs.LayoutLaws.{fitted-answered}
 use Rattle.reader.specs.Lists.{numbersFrom, filterb, memberb}
 use Rattle.hashes.specs.Table.{nthOf, storedStart, storedHash, bucketOf, namesFrom, run}
-use Rattle.reader.proofs.ListLaws.{numbers-length, filter-length, filter-step, filter-last, filter-first, past-other}
+use Rattle.reader.proofs.ListLaws.{false-true, numbers-length, filter-length, filter-step, filter-last, filter-first, member-filter, filter-member, member-holds, member-numbers, numbers-member, past-other}
 use Rattle.hashes.proofs.TableLaws.{buckets-end, hashes-end, strings-inside, bucket-below}
 use Rattle.tables.specs.declared.Segment.{Segment}
 use Rattle.tables.specs.declared.Count.{Count}
-use Rattle.tables.specs.Segments.{followed, countedAt}
+use Rattle.tables.specs.Segments.{followed, oneMore, countedAt}
 use Rattle.tables.proofs.SegmentLaws.{Before, before-first, before-next, followed-bucket, reached-member}
+use Rattle.tables.specs.Sanity.{MissedExactly}
 use Rattle.tables.specs.Check.{Checked, no-table, complete, incomplete, startAbove, anyAbove, isMissed, missedNames, verdict, tableCheck}
 
 -- whether a bucket from a number on has a start above N + 1
@@ -46,6 +48,24 @@ above-step names startOf buckets bucket = rw (filter-step (startAbove names star
     tested true true = lt-ltb 0 (suc (length after)) (omega arith)
     tested true false = refl
     tested false u = refl
+
+-- the missed names are the names of the index that the run of their own bucket does not reach
+pub missed-exactly : MissedExactly
+unfolding missedNames namesFrom isMissed
+missed-exactly order s i name = (
+  λ h.
+      let (above, below) = numbers-member name 0 (i .«name_count» - 0) (member-filter (isMissed order s i) name (numbersFrom 0 (i .«name_count» - 0)) h) in
+      (omega arith, not-true _ (member-holds (isMissed order s i) name (numbersFrom 0 (i .«name_count» - 0)) h)),
+  λ (below, out). filter-member (isMissed order s i) name (numbersFrom 0 (i .«name_count» - 0)) (not-false _ out) (member-numbers name 0 (i .«name_count» - 0) (omega arith) (omega arith)),
+)
+  where
+    not-false : (t : Bool) → t ≡ false → not t ≡ true
+    not-false true e = absurd (false-true (sym e))
+    not-false false e = refl
+
+    not-true : (t : Bool) → not t ≡ true → t ≡ false
+    not-true true e = absurd (false-true e)
+    not-true false e = refl
 
 -- the missed names below a number
 unfoldable pub missedBelow : RunTimeEndian → List ℕ → NameIndex → ℕ → List ℕ
@@ -76,9 +96,8 @@ kept-length [] = refl
 kept-length (name ∷ more) = refl
 
 -- one more behind them
-kept-last : (names : List ℕ) (name : ℕ)
-    → kept (names ++ (name ∷ [])) ≡ cond (eqb (kept names .missed) 0) (record { missed = 1; least = name }) (record { missed = kept names .missed + 1; least = kept names .least })
-unfolding kept
+kept-last : (names : List ℕ) (name : ℕ) → kept (names ++ (name ∷ [])) ≡ oneMore (kept names) name
+unfolding kept oneMore
 kept-last [] name = refl
 kept-last (first ∷ more) name =
     let one-more : length (more ++ (name ∷ [])) ≡ length more + 1 = length-append more (name ∷ []) in
@@ -111,11 +130,16 @@ unfolding verdict
 verdict-table hashOf [] e = no-table-complete (sym e)
 verdict-table hashOf (name ∷ more) e = let z : _≡_ {A = ℕ} 0 1 = cc in omega arith
 
--- what the check has found where it answers: an index without buckets; or a table whose starts are all taken, and the verdict on its names
+-- an index that fits its section, with a hash table whose starts are all at most N + 1
+pub record Taken (order : RunTimeEndian) (s : List ℕ) (i : NameIndex) : Type 0 where
+  pub short : length s ≤ longest
+  pub fits : Fits s i
+  pub buckets : 0 < i .«bucket_count»
+  pub none-above : anyAbove (i .«name_count») (storedStart order s (parts i)) (i .«bucket_count») ≡ false
+
+-- what the check has found where it answers: an index without buckets; or such a table, and the verdict on its names
 pub check-answered : (order : RunTimeEndian) (s : List ℕ) (i : NameIndex) (a : Checked) → tableCheck order s i ≡ answered a
-    → ((i .«bucket_count» ≡ 0) × (no-table ≡ a))
-    ⊎ ((length s ≤ longest) × Fits s i × (0 < i .«bucket_count») × (anyAbove (i .«name_count») (storedStart order s (parts i)) (i .«bucket_count») ≡ false)
-    × (verdict (storedHash order s (parts i)) (missedNames order s i) ≡ a))
+    → ((i .«bucket_count» ≡ 0) × (no-table ≡ a)) ⊎ (Taken order s i × (verdict (storedHash order s (parts i)) (missedNames order s i) ≡ a))
 unfolding tableCheck
 check-answered order s i a e =
     let (p, given, rest) = bind-answered (fitted s i) _ a e in
@@ -125,10 +149,12 @@ check-answered order s i a e =
     (λ (here, more).
     let (u, inside, said) = then-answered (refuseIf (anyAbove (i .«name_count») (storedStart order s p) (i .«bucket_count»)) 1 (p .«hash_table_data»)) _ a more in
     inr (
-      short,
-      fits,
-      past-other (i .«bucket_count») 0 (omega arith) (eqb-false (i .«bucket_count») 0 here),
-      rw same at (passed (anyAbove (i .«name_count») (storedStart order s p) (i .«bucket_count»)) 1 (p .«hash_table_data») u inside),
+      record {
+        short = short;
+        fits = fits;
+        buckets = past-other (i .«bucket_count») 0 (omega arith) (eqb-false (i .«bucket_count») 0 here);
+        none-above = rw same at (passed (anyAbove (i .«name_count») (storedStart order s p) (i .«bucket_count»)) 1 (p .«hash_table_data») u inside);
+      },
       rw same at (same-answer said),
     ))
     (cond-is (eqb (i .«bucket_count») 0) _ _ (answered a) rest)
@@ -198,9 +224,7 @@ module _ (order : RunTimeEndian) (s : List ℕ) (i : NameIndex) (starts hashes :
           reached-member i (storedStart order s (parts i)) (storedHash order s (parts i)) name after next
           (followed-bucket i (storedStart order s (parts i)) (storedHash order s (parts i)) name g) below (k .some)
 
-      one-more : (t : Bool)
-          → cond t (kept (missedBelow order s i name)) (cond (eqb (kept (missedBelow order s i name) .missed) 0) (record { missed = 1; least = name }) (record { missed = kept (missedBelow order s i name) .missed + 1; least = kept (missedBelow order s i name) .least }))
-          ≡ kept (missedBelow order s i name ++ cond (not t) (name ∷ []) [])
+      one-more : (t : Bool) → cond t (kept (missedBelow order s i name)) (oneMore (kept (missedBelow order s i name)) name) ≡ kept (missedBelow order s i name ++ cond (not t) (name ∷ []) [])
       one-more true = ap kept (sym (append-nil (missedBelow order s i name)))
       one-more false = sym (kept-last (missedBelow order s i name) name)
 

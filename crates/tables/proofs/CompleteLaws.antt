@@ -33,7 +33,7 @@ use Rattle.hashes.proofs.TableLaws.{bucket-below, bucket-itself, storing-step, 
 use Rattle.hashes.proofs.LookupLaws.{started, find-fits, find-answered, hash-answered, hash-lookups, hashes-have-end, steps-follow}
 use Rattle.tables.specs.Check.{no-table, complete, startAbove, anyAbove, isMissed, missedNames, verdict, tableCheck}
 use Rattle.tables.specs.Demand3.{ListsAll, CompleteExactly}
-use Rattle.tables.proofs.CheckLaws.{no-table-complete, verdict-complete, verdict-table, check-answered}
+use Rattle.tables.proofs.CheckLaws.{missed-exactly, no-table-complete, verdict-complete, verdict-table, Taken, check-answered}
 
 -- Where all names that store the hash belong to the run from a number on, the run's names that store it are all names from there on that do.
 module _ (i : NameIndex) (hashOf : ℕ → ℕ) (bucket hash : ℕ) where
@@ -132,22 +132,18 @@ module _ (order : RunTimeEndian) (s : List ℕ) (i : NameIndex) where
       at-bucket false e = refl
 
   none-missed : missedNames order s i ≡ [] → NoneMissed
-  unfolding missedNames isMissed namesFrom
   none-missed nothing name below = reached (memberb name (run order s i (bucketOf i (storedHash order s (parts i) name)))) refl
     where
       reached : (t : Bool) → memberb name (run order s i (bucketOf i (storedHash order s (parts i) name))) ≡ t → t ≡ true
       reached true e = refl
-      reached false e =
-          absurd (no-members name (filterb (isMissed order s i) (numbersFrom 0 (i .«name_count» - 0))) (ap length nothing)
-          (filter-member (isMissed order s i) name (numbersFrom 0 (i .«name_count» - 0)) (ap not e) (member-numbers name 0 (i .«name_count» - 0) (omega arith) (omega arith))))
+      reached false e = absurd (no-members name (missedNames order s i) (ap length nothing) (missed-exactly order s i name .1 (below, e)))
 
   -- what the check says where it says complete
-  check-complete : tableCheck order s i ≡ answered complete
-      → (length s ≤ longest) × Fits s i × (0 < i .«bucket_count») × (anyAbove (i .«name_count») (storedStart order s (parts i)) (i .«bucket_count») ≡ false) × (missedNames order s i ≡ [])
+  check-complete : tableCheck order s i ≡ answered complete → Taken order s i × (missedNames order s i ≡ [])
   check-complete e =
       ⊎-elim
       (λ (no-buckets, same). absurd (no-table-complete same))
-      (λ (short, fits, buckets, none-above, said). (short, fits, buckets, none-above, verdict-complete _ (missedNames order s i) said))
+      (λ (taken, said). (taken, verdict-complete _ (missedNames order s i) said))
       (check-answered order s i complete e)
 
   -- what linked steps list up to the first end
@@ -161,23 +157,24 @@ module _ (order : RunTimeEndian) (s : List ℕ) (i : NameIndex) where
       let more = ltb-true (length (hashNames (namesOfHash order s i hash))) (length (hashAnswers steps)) (sym end ∙ ended) in
       same ∙ take-all (length (hashAnswers steps)) (hashNames (namesOfHash order s i hash)) (omega arith)
 
-  -- in a table whose starts are all taken each lookup gives a cursor, and its steps reach an end
-  pub lookup-ends : length s ≤ longest → Fits s i → 0 < i .«bucket_count» → anyAbove (i .«name_count») (storedStart order s (parts i)) (i .«bucket_count») ≡ false → (hash : ℕ)
+  -- in such a table each lookup gives a cursor, and its steps reach an end
+  pub lookup-ends : Taken order s i → (hash : ℕ)
       → (c : NameHashIter) × given-by c hash × ((steps : List NameHashStep) × Linked hashStepOf (hashStep order s i) c steps × (hasEnd (hashAnswers steps) ≡ true))
   unfolding findByHash
-  lookup-ends short fits buckets none-above hash =
-      let below = bucket-below i hash buckets in
-      let inside = starts-inside none-above (bucketOf i hash) below in
+  lookup-ends taken hash =
+      let below = bucket-below i hash (taken .buckets) in
+      let inside = starts-inside (taken .none-above) (bucketOf i hash) below in
       let c : NameHashIter = record { «bucket_iter» = started (bucketOf i hash) (storedStart order s (parts i) (bucketOf i hash)); hash = hash } in
-      let given : given-by c hash = rw (find-fits order s i (bucketOf i hash) short fits below, le-ltb (i .«name_count» + 1) (storedStart order s (parts i) (bucketOf i hash)) inside) in
+      let given : given-by c hash
+      = rw (find-fits order s i (bucketOf i hash) (taken .short) (taken .fits) below, le-ltb (i .«name_count» + 1) (storedStart order s (parts i) (bucketOf i hash)) inside) in
       let (steps, count, linked) = steps-follow order s i hash c (i .«name_count» + 1) given in
       (c, given, (steps, linked, hashes-have-end order s i hash c steps given linked (omega arith)))
 
   -- a complete table lists all names of each hash
   complete-lists : tableCheck order s i ≡ answered complete → (hash : ℕ) → ListsAll order s i hash
   complete-lists e hash =
-      let (short, fits, buckets, none-above, nothing) = check-complete e in
-      let (c, given, reaches) = lookup-ends short fits buckets none-above hash in
+      let (taken, nothing) = check-complete e in
+      let (c, given, reaches) = lookup-ends taken hash in
       let all = names-all (none-missed nothing) hash in
       (c, given, reaches, λ steps linked ended. steps-name hash c steps given linked ended ∙ ap hashNames all)
 
@@ -247,15 +244,15 @@ module _ (order : RunTimeEndian) (s : List ℕ) (i : NameIndex) where
 -- so the names of each hash in a complete table are all names that store it
 pub complete-names : (order : RunTimeEndian) (s : List ℕ) (i : NameIndex) → tableCheck order s i ≡ answered complete → (0 < i .«bucket_count») × ((hash : ℕ) → namesOfHash order s i hash ≡ allStoring order s i hash)
 complete-names order s i e =
-    let (short, fits, buckets, none-above, nothing) = check-complete order s i e in
-    (buckets, names-all order s i (none-missed order s i nothing))
+    let (taken, nothing) = check-complete order s i e in
+    (taken .buckets, names-all order s i (none-missed order s i nothing))
 
 -- and an index that the check says has no table has no buckets
 pub no-table-buckets : (order : RunTimeEndian) (s : List ℕ) (i : NameIndex) → tableCheck order s i ≡ answered no-table → i .«bucket_count» ≡ 0
 no-table-buckets order s i e =
     ⊎-elim
     (λ (no-buckets, same). no-buckets)
-    (λ (short, fits, buckets, none-above, said). absurd (verdict-table _ (missedNames order s i) said))
+    (λ (taken, said). absurd (verdict-table _ (missedNames order s i) said))
     (check-answered order s i no-table e)
 
 pub complete-exactly : CompleteExactly

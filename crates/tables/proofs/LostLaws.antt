@@ -1,48 +1,25 @@
 -- What an incomplete answer of the check names: the smallest of the missed names, which a lookup of its hash does not list.
 use Prim.Native.Nat.{ℕ, _-_, _≤_, _<_}
-use mathlib.Core.Path.{_≡_, refl, sym, ap, _∙_}
-use mathlib.Core.Bool.{Bool, true, false, not}
+use mathlib.Core.Path.{_≡_, refl, sym, _∙_}
+use mathlib.Core.Bool.{Bool, true, false}
 use mathlib.Core.Logic.{⊎-elim}
 use mathlib.Core.List.{List, [], _∷_}
 use native.Mathlib.Omega.{arith}
 use lib.ListN.{length}
 use lib.Dec.{ltb, eqb}
 use borrow.Author.Tests.{ltb-true, ltb-false, eq-eqb}
-use Rattle.reader.specs.Errors.{longest}
 use Rattle.reader.specs.Lists.{numbersFrom, memberb}
 use Rattle.reader.specs.declared.endianity.RunTimeEndian.{RunTimeEndian}
-use Rattle.reader.proofs.ListLaws.{false-true, filter-first, member-filter, filter-member, member-holds, member-numbers, numbers-member}
+use Rattle.reader.proofs.ListLaws.{false-true, filter-first, member-filter, filter-member, member-holds, member-numbers}
 use Rattle.index.specs.declared.layout.NameIndex.{NameIndex}
-use Rattle.index.specs.Layout.{parts, Fits}
-use Rattle.hashes.specs.Table.{storedStart, storedHash, bucketOf, namesFrom, run, storing, namesOfHash, allStoring}
+use Rattle.index.specs.Layout.{parts}
+use Rattle.hashes.specs.Table.{storedHash, bucketOf, namesFrom, run, storing, namesOfHash, allStoring}
 use Rattle.tables.specs.declared.Incomplete.{Incomplete}
 use Rattle.tables.specs.declared.TableCheck.{TableCheck}
-use Rattle.tables.specs.Check.{Checked, no-table, incomplete, checkOutcome, anyAbove, isMissed, missedNames, verdict, tableCheck}
-use Rattle.tables.specs.Sanity.{MissedExactly, MissedTold, LostLeast, ListsWithout, LostNotListed}
-use Rattle.tables.proofs.CheckLaws.{check-answered}
+use Rattle.tables.specs.Check.{incomplete, checkOutcome, isMissed, missedNames, verdict, tableCheck}
+use Rattle.tables.specs.Sanity.{MissedTold, LostLeast, LostNotListed}
+use Rattle.tables.proofs.CheckLaws.{missed-exactly, Taken, check-answered}
 use Rattle.tables.proofs.CompleteLaws.{steps-name, lookup-ends}
-
--- what a truth value is by its opposite
-not-false : (t : Bool) → t ≡ false → not t ≡ true
-not-false true e = absurd (false-true (sym e))
-not-false false e = refl
-
-not-true : (t : Bool) → not t ≡ true → t ≡ false
-not-true true e = absurd (false-true e)
-not-true false e = refl
-
-never-true : (t : Bool) → (t ≡ true → ⊥) → t ≡ false
-never-true true never = absurd (never refl)
-never-true false never = refl
-
-pub missed-exactly : MissedExactly
-unfolding missedNames namesFrom isMissed
-missed-exactly order s i name = (
-  λ h.
-      let (above, below) = numbers-member name 0 (i .«name_count» - 0) (member-filter (isMissed order s i) name (numbersFrom 0 (i .«name_count» - 0)) h) in
-      (omega arith, not-true _ (member-holds (isMissed order s i) name (numbersFrom 0 (i .«name_count» - 0)) h)),
-  λ (below, out). filter-member (isMissed order s i) name (numbersFrom 0 (i .«name_count» - 0)) (not-false _ out) (member-numbers name 0 (i .«name_count» - 0) (omega arith) (omega arith)),
-)
 
 module _ (order : RunTimeEndian) (s : List ℕ) (i : NameIndex) where
   -- the first of the missed names is among them, and none of them has a smaller number
@@ -76,12 +53,8 @@ module _ (order : RunTimeEndian) (s : List ℕ) (i : NameIndex) where
   verdict-told name (first ∷ more) h = (record { missed = length (first ∷ more); name = record { 0 = first }; hash = storedHash order s (parts i) first }, refl)
 
   -- what the check has found where it answers incomplete
-  abbrev Found : Incomplete → Type 0
-  Found lost =
-      (length s ≤ longest) × Fits s i × (0 < i .«bucket_count») × (anyAbove (i .«name_count») (storedStart order s (parts i)) (i .«bucket_count») ≡ false)
-      × (verdict (storedHash order s (parts i)) (missedNames order s i) ≡ incomplete lost)
-
-  incomplete-found : (lost : Incomplete) → checkOutcome (TableCheck.Incomplete lost) ≡ tableCheck order s i → Found lost
+  incomplete-found : (lost : Incomplete) → checkOutcome (TableCheck.Incomplete lost) ≡ tableCheck order s i
+      → Taken order s i × (verdict (storedHash order s (parts i)) (missedNames order s i) ≡ incomplete lost)
   incomplete-found lost e =
       ⊎-elim
       (λ (no-buckets, same). let z : _≡_ {A = ℕ} 0 1 = cc in absurd (omega arith))
@@ -92,12 +65,12 @@ pub missed-told : MissedTold
 missed-told order s i a name e buckets missed =
     ⊎-elim
     (λ (no-buckets, same). absurd (omega arith))
-    (λ (short, fits, some, none-above, said). let (lost, same) = verdict-told order s i name (missedNames order s i) missed in (lost, sym said ∙ same))
+    (λ (taken, said). let (lost, same) = verdict-told order s i name (missedNames order s i) missed in (lost, sym said ∙ same))
     (check-answered order s i a (sym e))
 
 pub lost-least : LostLeast
 lost-least order s i lost e =
-    let (short, fits, buckets, none-above, said) = incomplete-found order s i lost e in
+    let (taken, said) = incomplete-found order s i lost e in
     let (more, first, count, stored) = verdict-names order s i lost (missedNames order s i) said in
     let (among, least) = first-least order s i (lost .name .0) more first in
     (count, among, least, stored)
@@ -105,10 +78,10 @@ lost-least order s i lost e =
 pub lost-not-listed : LostNotListed
 unfolding allStoring namesOfHash storing namesFrom
 lost-not-listed order s i lost e =
-    let (short, fits, buckets, none-above, said) = incomplete-found order s i lost e in
+    let (taken, said) = incomplete-found order s i lost e in
     let (count, among, least, stored) = lost-least order s i lost e in
     let (below, out) = missed-exactly order s i (lost .name .0) .0 among in
-    let (c, given, reaches) = lookup-ends order s i short fits buckets none-above (lost .hash) in (
+    let (c, given, reaches) = lookup-ends order s i taken (lost .hash) in (
       filter-member (λ n. eqb (storedHash order s (parts i) n) (lost .hash)) (lost .name .0) (numbersFrom 0 (i .«name_count» - 0)) (eq-eqb _ (lost .hash) (sym stored))
           (member-numbers (lost .name .0) 0 (i .«name_count» - 0) (omega arith) (omega arith)),
       (
@@ -118,8 +91,12 @@ lost-not-listed order s i lost e =
         λ steps linked ended. (
           namesOfHash order s i (lost .hash),
           steps-name order s i (lost .hash) c steps given linked ended,
-          never-true _ (λ h.
+          never (λ h.
               false-true (sym out ∙ rw stored at (member-filter (λ n. eqb (storedHash order s (parts i) n) (lost .hash)) (lost .name .0) (run order s i (bucketOf i (lost .hash))) h))),
         ),
       ),
     )
+  where
+    never : {t : Bool} → (t ≡ true → ⊥) → t ≡ false
+    never {t = true} not-so = absurd (not-so refl)
+    never {t = false} not-so = refl

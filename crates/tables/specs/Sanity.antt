@@ -1,4 +1,5 @@
--- What is proved of the table check's answers: document 02, No. 2. The laws of proofs/LostLaws.antt prove it.
+-- What is proved of the missed names and of the table check's answers: document 02, No. 2. The law `missed-exactly` of proofs/CheckLaws.antt and
+-- those of proofs/LostLaws.antt prove it.
 use Prim.Native.Nat.{ℕ, _≤_, _<_}
 use mathlib.Core.Path.{_≡_}
 use mathlib.Core.Bool.{true, false}

@@ -19,9 +19,10 @@ followed i startOf before name hash = cond (eqb (bucketOf i hash) (before .bucke
     before
     (record { bucket = bucketOf i hash; from = reachedFrom i (startOf (bucketOf i hash)) name })
 
--- the missed names up to and with a name of the segment, from those before it: a name that is not reached is one more, and the smallest if it is
--- the first; `least` says nothing while `missed` is 0
+-- one more missed name behind those before it: it is the smallest if it is the first; `least` says nothing while `missed` is 0
+unfoldable pub oneMore : Count → ℕ → Count
+oneMore before name = cond (eqb (before .missed) 0) (record { missed = 1; least = name }) (record { missed = before .missed + 1; least = before .least })
+
+-- the missed names up to and with a name of the segment, from those before it
 unfoldable pub countedAt : Count → Segment → ℕ → Count
-countedAt before segment name = cond (leb (segment .from) name)
-    before
-    (cond (eqb (before .missed) 0) (record { missed = 1; least = name }) (record { missed = before .missed + 1; least = before .least }))
+countedAt before segment name = cond (leb (segment .from) name) before (oneMore before name)

@@ -3,7 +3,7 @@
 -- Assumes nothing.
 use borrow.Author.Needs.{needs}
 use borrow.Author.Tests.{eq-eqb, le-leb, lt-leb, ne-eqb}
-use Rattle.tables.specs.Segments.{countedAt}
+use Rattle.tables.specs.Segments.{oneMore, countedAt}
 use Rattle.tables.proofs.counted.Statement.{statement}
 use Rattle.tables.proofs.counted.Tie as tie
 
@@ -14,7 +14,7 @@ returns c =
     (le-leb _ _ (c .if1 .taken))
 
 returns-2 : tie.Need-returns-2
-unfolding countedAt
+unfolding countedAt oneMore
 returns-2 c =
     rw (
       lt-leb _ _ (c .before .before .if1 .left),
@@ -25,7 +25,7 @@ add-t5 : tie.Need-add-t5
 add-t5 c = search needs
 
 returns-3 : tie.Need-returns-3
-unfolding countedAt
+unfolding countedAt oneMore
 returns-3 c =
     rw (
       lt-leb _ _ (c .before .before .before .if1 .left),
