@@ -164,11 +164,10 @@ struct table {
     std::uint32_t hash = 0;
 };
 
-// What lookups by hash miss: how many names, and of the one with the smallest number that number, the hash that is stored for it, and its
-// string, or why that cannot be read.
+// The same with the string of that name, or why it cannot be read.
 struct lost_name {
     std::uint64_t missed = 0;
-    std::uint32_t number = 0;
+    std::uint32_t name = 0;
     std::uint32_t hash = 0;
     result<std::string_view> string{};
 };
@@ -413,9 +412,9 @@ public:
         if (said.status != DEBUG_NAMES_OK) return detail::why(said);
         return table{static_cast<table_kind>(said.kind), said.value, said.name, said.hash};
     }
-    // The same for a person to start from: the missed name of the smallest number, with its string; none where the table is complete, and
-    // where there is no table. Refused as `check_table` is. A string that cannot be read is a refusal inside, so that number and hash are
-    // told all the same.
+    // What `check_table` finds, for a person to start from: the missed name of the smallest number, with its string; none where the table is
+    // complete, and where there is no table. Refused as `check_table` is. A string that cannot be read is a refusal inside, so that number
+    // and hash are told all the same.
     result<std::optional<debug_names::lost_name>> lost_name(bytes strings) const noexcept {
         const result<table> check = check_table();
         if (!check) return check.why();

@@ -1,8 +1,8 @@
 //! A reader of the DWARF 5 section `.debug_names`: the section that says where the function or type of a name is described.
 //!
 //! The functions are those of `libdebug_names.a`, which is written in Rattle and proved: on any bytes each call ends, reads only
-//! what it is lent, and answers or refuses as its specification says. This crate adds Rust types to them and nothing else. What is
-//! proved ends at the library: this crate is tested.
+//! what it is lent, and answers or refuses as its specification says. This crate adds Rust types to them, and [`NameIndex::lost_name`],
+//! which asks two of them. What is proved ends at the library: this crate is tested.
 //!
 //! `rt staticlib debug_names`, run in the repository, makes the library where this crate looks for it. The environment variable
 //! DEBUG_NAMES_LIB names another folder that has it.

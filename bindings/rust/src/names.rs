@@ -319,12 +319,13 @@ impl<'a> NameIndex<'a> {
         Ok(match check.kind {
             0 => TableCheck::NoTable,
             1 => TableCheck::Complete,
+            // No more names are missed than there are, and their number has 32 bits.
             _ => TableCheck::Incomplete(Incomplete { missed: check.value as u32, name: NameTableIndex(check.name), hash: check.hash }),
         })
     }
 
-    /// The same for a person to start from: the missed name of the smallest number, with its string; `Ok(None)` if lookups by hash list
-    /// every name or there is no hash table. Not in gimli.
+    /// What [`NameIndex::check_table`] finds, for a person to start from: the missed name of the smallest number, with its string;
+    /// `Ok(None)` if lookups by hash list every name or there is no hash table. Not in gimli.
     ///
     /// A string that cannot be read is an error inside, so that number and hash are told all the same.
     pub fn lost_name<'s>(&self, debug_str: &DebugStr<'s>) -> Result<Option<LostName<'s>>> {

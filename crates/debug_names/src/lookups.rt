@@ -83,7 +83,8 @@ pub extern "C" fn debug_names_next_by_hash(
     hash_step_answer(at.next(order_of(order), section, index_of(index)))
 }
 
-// Whether lookups by hash list every name, and where they do not, the smallest number of a name that is missed.
+// Whether lookups by hash list every name, and where they do not, how many are missed, the smallest of their numbers, and the hash that is stored
+// for that name.
 #[no_mangle]
 pub extern "C" fn debug_names_check_table(
     order: u32,

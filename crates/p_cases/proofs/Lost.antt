@@ -1,5 +1,6 @@
 -- What the table check names in case A with another second start: the definitions by computation, the rest by the theorems.
 use mathlib.Core.Path.{refl}
+use native.Mathlib.Omega.{arith}
 use Rattle.reader.specs.Errors.{longest}
 use Rattle.reader.specs.Numbers.{digits, spelled, numberAt}
 use Rattle.reader.specs.Lists.{numbersFrom, filterb, takeWhile, memberb}
@@ -13,7 +14,7 @@ use Rattle.p_cases.specs.Lost.{lostTwo, LostSupposes, LostInA, LostCompu
 
 pub lost-supposes : LostSupposes
 unfolding caseA indexA secondStart nthOf storedStart storedHash bucketOf namesFrom runFrom fromStart run numbersFrom filterb takeWhile memberb numberAt spelled digits fitted parts place placesFrom sizes wordBytes hashBytes longest startAbove anyAbove isMissed missedNames verdict tableCheck
-lost-supposes = (refl, refl)
+lost-supposes = (refl, refl, omega arith, refl)
 
 pub lost-in-a : LostInA
 lost-in-a =

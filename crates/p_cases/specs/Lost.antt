@@ -1,6 +1,6 @@
 -- Document 02, No. 2, on case A with another second start: what the table check names, and what is proved of it; and on a table of its own, whose
 -- lost name is not in the lowest bucket.
-use Prim.Native.Nat.{ℕ, _≤_}
+use Prim.Native.Nat.{ℕ, _≤_, _<_}
 use mathlib.Core.Path.{_≡_}
 use mathlib.Core.Bool.{true}
 use mathlib.Core.List.{List, [], _∷_, _++_}
@@ -24,11 +24,13 @@ lostOne = record { missed = 1; name = record { 0 = 1 }; hash = 7 }
 abbrev pub lostTwo : Incomplete
 lostTwo = record { missed = 2; name = record { 0 = 1 }; hash = 7 }
 
--- what `LostLeast` and `LostNotListed` suppose, of both
+-- what `LostLeast` and `LostNotListed` suppose, of both, and what else `MissedTold` does, of the second
 abbrev pub LostSupposes : Type 0
 LostSupposes =
     (checkOutcome (TableCheck.Incomplete lostOne) ≡ tableCheck RunTimeEndian.Little (secondStart 3) indexA)
     × (checkOutcome (TableCheck.Incomplete lostTwo) ≡ tableCheck RunTimeEndian.Little (secondStart 4) indexA)
+    × (0 < indexA .«bucket_count»)
+    × (memberb 1 (missedNames RunTimeEndian.Little (secondStart 4) indexA) ≡ true)
 
 -- part of what they then say of the second: no missed name is smaller than 1, and the lookup of 7 lists names without it
 abbrev pub LostInA : Type 0

@@ -52,6 +52,11 @@ take-shorter (suc n) (a ∷ rest) = ap (λ l. a ∷ l) (take-shorter n rest)
 pub false-true : false ≡ true → ⊥
 false-true e = let z : _≡_ {A = ℕ} 0 1 = cc in omega arith
 
+-- what never holds is false
+pub never-true : (t : Bool) → (t ≡ true → ⊥) → t ≡ false
+never-true true never = absurd (never refl)
+never-true false never = refl
+
 pub nil-cons : {A : Type 0} {a : A} {l : List A} → [] ≡ a ∷ l → ⊥
 nil-cons e = let z : _≡_ {A = ℕ} 0 1 = cc in omega arith
 
@@ -141,6 +146,11 @@ member-numbers m a (suc k) above below = chosen (eqb m a) refl (λ h. member-num
     chosen true e more = refl
     chosen false e more = more (past-other m a above (eqb-false m a e))
 
+-- so a number below k for which a test holds is in what the test takes of the first k numbers
+pub filter-below : (test : ℕ → Bool) (n k : ℕ) → test n ≡ true → n < k → memberb n (filterb test (numbersFrom 0 k)) ≡ true
+filter-below test n k holds below = filter-member test n (numbersFrom 0 k) holds (member-numbers n 0 k (omega arith) (omega arith))
+
+-- and no other number is one of those from a on
 pub numbers-member : (m a k : ℕ) → memberb m (numbersFrom a k) ≡ true → (a ≤ m) × (m < a + k)
 unfolding numbersFrom memberb
 numbers-member m a zero h = absurd (false-true h)

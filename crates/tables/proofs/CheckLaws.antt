@@ -19,11 +19,11 @@ use Rattle.index.specs.Layout.{parts, Fits, fitted}
 use Rattle.index.proofs.LayoutLaws.{fitted-answered}
 use Rattle.reader.specs.Lists.{numbersFrom, filterb, memberb}
 use Rattle.hashes.specs.Table.{nthOf, storedStart, storedHash, bucketOf, namesFrom, run}
-use Rattle.reader.proofs.ListLaws.{false-true, numbers-length, filter-length, filter-step, filter-last, filter-first, member-filter, filter-member, member-holds, member-numbers, numbers-member, past-other}
+use Rattle.reader.proofs.ListLaws.{false-true, numbers-length, filter-length, filter-step, filter-last, filter-first, member-filter, member-holds, filter-below, numbers-member, past-other}
 use Rattle.hashes.proofs.TableLaws.{buckets-end, hashes-end, strings-inside, bucket-below}
 use Rattle.tables.specs.declared.Segment.{Segment}
 use Rattle.tables.specs.declared.Count.{Count}
-use Rattle.tables.specs.Segments.{followed, oneMore, countedAt}
+use Rattle.tables.specs.Segments.{noSegment, followed, oneMore, countedAt}
 use Rattle.tables.proofs.SegmentLaws.{Before, before-first, before-next, followed-bucket, reached-member}
 use Rattle.tables.specs.Sanity.{MissedExactly}
 use Rattle.tables.specs.Check.{Checked, no-table, complete, incomplete, startAbove, anyAbove, isMissed, missedNames, verdict, tableCheck}
@@ -56,7 +56,7 @@ missed-exactly order s i name = (
   λ h.
       let (above, below) = numbers-member name 0 (i .«name_count» - 0) (member-filter (isMissed order s i) name (numbersFrom 0 (i .«name_count» - 0)) h) in
       (omega arith, not-true _ (member-holds (isMissed order s i) name (numbersFrom 0 (i .«name_count» - 0)) h)),
-  λ (below, out). filter-member (isMissed order s i) name (numbersFrom 0 (i .«name_count» - 0)) (not-false _ out) (member-numbers name 0 (i .«name_count» - 0) (omega arith) (omega arith)),
+  λ (below, out). filter-below (isMissed order s i) name (i .«name_count» - 0) (not-false _ out) (omega arith),
 )
   where
     not-false : (t : Bool) → t ≡ false → not t ≡ true
@@ -160,17 +160,17 @@ check-answered order s i a e =
     (cond-is (eqb (i .«bucket_count») 0) _ _ (answered a) rest)
 
 -- what the loop keeps: where the table stands, what is kept of the names that were missed before a name, and the segment before it
-pub record Counting (order : RunTimeEndian) (s : List ℕ) (i : NameIndex) (starts hashes : ℕ) (g : Segment) (passed : Count) (name : ℕ) : Type 0 where
+pub record Counting (order : RunTimeEndian) (s : List ℕ) (i : NameIndex) (starts hashes : ℕ) (g : Segment) (count : Count) (name : ℕ) : Type 0 where
   pub at-starts : starts ≡ parts i .«bucket_data»
   pub at-hashes : hashes ≡ parts i .«hash_table_data»
   pub fits : Fits s i
   pub some : 0 < i .«bucket_count»
   pub within : name ≤ i .«name_count»
-  pub counted : passed ≡ kept (missedBelow order s i name)
+  pub counted : count ≡ kept (missedBelow order s i name)
   pub before : Before i (storedStart order s (parts i)) (storedHash order s (parts i)) name g
 
 pub counting-first : (order : RunTimeEndian) (s : List ℕ) (i : NameIndex) (p : Parts) → answered p ≡ fitted s i → (i .«bucket_count» ≡ 0 → ⊥)
-    → Counting order s i (p .«bucket_data») (p .«hash_table_data») (record { bucket = i .«bucket_count»; from = 0 }) (record { missed = 0; least = 0 }) 0
+    → Counting order s i (p .«bucket_data») (p .«hash_table_data») (noSegment i) (record { missed = 0; least = 0 }) 0
 unfolding missedBelow kept filterb numbersFrom
 counting-first order s i p given other =
     let (short, fits, same) = fitted-answered s i p (sym given) in
@@ -184,7 +184,7 @@ counting-first order s i p given other =
       before = before-first i (storedStart order s (parts i)) (storedHash order s (parts i));
     }
 
-module _ (order : RunTimeEndian) (s : List ℕ) (i : NameIndex) (starts hashes : ℕ) (g : Segment) (passed : Count) (name : ℕ) (k : Counting order s i starts hashes g passed name) where
+module _ (order : RunTimeEndian) (s : List ℕ) (i : NameIndex) (starts hashes : ℕ) (g : Segment) (count : Count) (name : ℕ) (k : Counting order s i starts hashes g count name) where
   -- where the numbers of the table stand
   pub hash-inside : (n : ℕ) → n < i .«name_count» → hashes + 4 * n + 4 ≤ length s
   hash-inside n below = omega (arith, k .at-hashes, hashes-end i (k .some), strings-inside s i (k .fits))
@@ -193,7 +193,7 @@ module _ (order : RunTimeEndian) (s : List ℕ) (i : NameIndex) (starts hashes :
   start-inside hash = omega (arith, k .at-starts, buckets-end i, hashes-end i (k .some), strings-inside s i (k .fits), bucket-below i hash (k .some))
 
   -- no more names are missed than were passed
-  pub missed-most : passed .missed ≤ name
+  pub missed-most : count .missed ≤ name
   unfolding missedBelow
   missed-most =
       let most = filter-length (isMissed order s i) (numbersFrom 0 name) in
@@ -201,7 +201,7 @@ module _ (order : RunTimeEndian) (s : List ℕ) (i : NameIndex) (starts hashes :
 
   -- one more name
   pub counting-next : name < i .«name_count»
-      → Counting order s i starts hashes (followed i (nthOf order s starts) g name (nthOf order s hashes name)) (countedAt passed (followed i (nthOf order s starts) g name (nthOf order s hashes name)) name) (name + 1)
+      → Counting order s i starts hashes (followed i (nthOf order s starts) g name (nthOf order s hashes name)) (countedAt count (followed i (nthOf order s starts) g name (nthOf order s hashes name)) name) (name + 1)
   unfolding storedStart storedHash isMissed run countedAt
   counting-next below = rw (k .at-starts, k .at-hashes) record {
     at-starts = refl;
@@ -229,20 +229,20 @@ module _ (order : RunTimeEndian) (s : List ℕ) (i : NameIndex) (starts hashes :
       one-more false = sym (kept-last (missedBelow order s i name) name)
 
   -- after the last name all missed ones are counted, and the verdict follows from the count
-  counting-last : i .«name_count» ≤ name → passed ≡ kept (missedNames order s i)
+  counting-last : i .«name_count» ≤ name → count ≡ kept (missedNames order s i)
   counting-last above =
       let last : name ≡ i .«name_count» = omega (arith, k .within) in
       rw (k .counted, last, missed-all order s i)
 
-  pub none-counted : (hashOf : ℕ → ℕ) → i .«name_count» ≤ name → passed .missed ≡ 0 → verdict hashOf (missedNames order s i) ≡ complete
+  pub none-counted : (hashOf : ℕ → ℕ) → i .«name_count» ≤ name → count .missed ≡ 0 → verdict hashOf (missedNames order s i) ≡ complete
   none-counted hashOf above none = verdict-none hashOf (missedNames order s i) (rw (counting-last above) at none)
 
-  pub some-counted : (hashOf : ℕ → ℕ) → i .«name_count» ≤ name → (passed .missed ≡ 0 → ⊥)
-      → verdict hashOf (missedNames order s i) ≡ incomplete (record { missed = passed .missed; name = record { 0 = passed .least }; hash = hashOf (passed .least) })
+  pub some-counted : (hashOf : ℕ → ℕ) → i .«name_count» ≤ name → (count .missed ≡ 0 → ⊥)
+      → verdict hashOf (missedNames order s i) ≡ incomplete (record { missed = count .missed; name = record { 0 = count .least }; hash = hashOf (count .least) })
   some-counted hashOf above some = rw (counting-last above) (verdict-some hashOf (missedNames order s i) (rw (counting-last above) at some))
 
   -- the smallest missed name is one of the names that were passed
-  pub least-below : (passed .missed ≡ 0 → ⊥) → passed .least < i .«name_count»
+  pub least-below : (count .missed ≡ 0 → ⊥) → count .least < i .«name_count»
   unfolding kept missedBelow
   least-below some = rw (k .counted) (of-kept (missedBelow order s i name) refl (rw (k .counted) at some))
     where

@@ -28,7 +28,7 @@ use Rattle.hashes.specs.Table.{nthOf, storedStart, storedHash, bucketOf, namesF
 use Rattle.hashes.specs.Lookups.{findByHash, hashStep}
 use Rattle.hashes.specs.Answers.{hashOutcome, hashStepOf}
 use Rattle.hashes.specs.Demand3.{hashAnswers, hashNames}
-use Rattle.reader.proofs.ListLaws.{false-true, filter-step, filter-none, filter-later, member-filter, filter-member, member-numbers, no-members}
+use Rattle.reader.proofs.ListLaws.{false-true, never-true, filter-step, filter-none, filter-later, member-filter, filter-below, no-members}
 use Rattle.hashes.proofs.TableLaws.{bucket-below, bucket-itself, storing-step, of-run, hashes-inside}
 use Rattle.hashes.proofs.LookupLaws.{started, find-fits, find-answered, hash-answered, hash-lookups, hashes-have-end, steps-follow}
 use Rattle.tables.specs.Check.{no-table, complete, startAbove, anyAbove, isMissed, missedNames, verdict, tableCheck}
@@ -57,11 +57,7 @@ module _ (i : NameIndex) (hashOf : ℕ → ℕ) (bucket hash : ℕ) where
 
       -- after a name of another bucket none stores the hash
       never : eqb (bucketOf i (hashOf from)) bucket ≡ false → (m : ℕ) → from ≤ m → m < i .«name_count» → eqb (hashOf m) hash ≡ false
-      never other m h l = stores (eqb (hashOf m) hash) refl
-        where
-          stores : (t : Bool) → eqb (hashOf m) hash ≡ t → t ≡ false
-          stores true e = absurd (eqb-false _ _ other (all m h l e from (omega arith) h))
-          stores false e = refl
+      never other m h l = never-true (eqb (hashOf m) hash) (λ e. eqb-false _ _ other (all m h l e from (omega arith) h))
 
       tested : (t u v w : Bool) → leb (i .«name_count») from ≡ t → eqb (bucketOf i (hashOf from)) bucket ≡ u → ltb from (i .«name_count») ≡ v → eqb (hashOf from) hash ≡ w
           → cond t [] (cond u (cond w (from ∷ left) left) []) ≡ cond v (cond w (from ∷ right) right) []
@@ -103,33 +99,23 @@ module _ (order : RunTimeEndian) (s : List ℕ) (i : NameIndex) where
       in-run-of : (m : ℕ) → m < i .«name_count» → eqb (hashOf m) hash ≡ true → memberb m (cond (eqb start 0) [] (runFrom i hashOf bucket (start - 1))) ≡ true
       in-run-of m l e = rw (eqb-true (storedHash order s (parts i) m) hash e) at (reached m l)
 
-      -- where a name that stores the hash would have to be somewhere that it is not
-      nowhere : (m : ℕ) → (eqb (hashOf m) hash ≡ true → ⊥) → eqb (hashOf m) hash ≡ false
-      nowhere m never = stores (eqb (hashOf m) hash) refl
-        where
-          stores : (t : Bool) → eqb (hashOf m) hash ≡ t → t ≡ false
-          stores true e = absurd (never e)
-          stores false e = refl
-
       tested : (t : Bool) → eqb start 0 ≡ t → ((m : ℕ) → m < i .«name_count» → eqb (hashOf m) hash ≡ true → memberb m (cond t [] (runFrom i hashOf bucket (start - 1))) ≡ true)
           → storing hashOf hash (cond t [] (runFrom i hashOf bucket (start - 1))) ≡ storing hashOf hash (namesFrom i 0)
-      tested true e within = sym (filter-none (λ n. eqb (hashOf n) hash) 0 (i .«name_count» - 0) (λ m h l. nowhere m (λ f. false-true (within m (omega arith) f))))
+      tested true e within = sym (filter-none (λ n. eqb (hashOf n) hash) 0 (i .«name_count» - 0) (λ m h l. never-true (eqb (hashOf m) hash) (λ f. false-true (within m (omega arith) f))))
       tested false e within =
           let same : 0 + (start - 1) ≡ start - 1 = omega arith in
           storing-run i hashOf bucket hash (start - 1) (λ m h l f j k n. let (above, below, all) = of-run i hashOf bucket m (start - 1) (within m l f) in all j k n)
-          ∙ sym (rw same at (filter-later (λ n. eqb (hashOf n) hash) (i .«name_count») 0 (start - 1) (λ m h l g. nowhere m (λ f. let (above, below, all) = of-run i hashOf bucket m (start - 1) (within m g f) in omega arith))))
+          ∙ sym (rw same at (filter-later (λ n. eqb (hashOf n) hash) (i .«name_count») 0 (start - 1) (λ m h l g. never-true (eqb (hashOf m) hash) (λ f. let (above, below, all) = of-run i hashOf bucket m (start - 1) (within m g f) in omega arith))))
 
   -- what the two tests of the check say
   starts-inside : anyAbove (i .«name_count») (storedStart order s (parts i)) (i .«bucket_count») ≡ false → (bucket : ℕ) → bucket < i .«bucket_count» → storedStart order s (parts i) bucket ≤ i .«name_count» + 1
   unfolding anyAbove startAbove
-  starts-inside none-above bucket below = ltb-false (i .«name_count» + 1) (storedStart order s (parts i) bucket) (at-bucket (ltb (i .«name_count» + 1) (storedStart order s (parts i) bucket)) refl)
-    where
-      at-bucket : (t : Bool) → ltb (i .«name_count» + 1) (storedStart order s (parts i) bucket) ≡ t → t ≡ false
-      at-bucket true e =
-          let none-there = ltb-false 0 (length (filterb (startAbove (i .«name_count») (storedStart order s (parts i))) (numbersFrom 0 (i .«bucket_count»)))) none-above in
-          absurd (no-members bucket (filterb (startAbove (i .«name_count») (storedStart order s (parts i))) (numbersFrom 0 (i .«bucket_count»))) (omega arith)
-          (filter-member (startAbove (i .«name_count») (storedStart order s (parts i))) bucket (numbersFrom 0 (i .«bucket_count»)) e (member-numbers bucket 0 (i .«bucket_count») (omega arith) (omega arith))))
-      at-bucket false e = refl
+  starts-inside none-above bucket below =
+      let none-there = ltb-false 0 (length (filterb (startAbove (i .«name_count») (storedStart order s (parts i))) (numbersFrom 0 (i .«bucket_count»)))) none-above in
+      ltb-false (i .«name_count» + 1) (storedStart order s (parts i) bucket)
+      (never-true _ (λ e.
+      no-members bucket (filterb (startAbove (i .«name_count») (storedStart order s (parts i))) (numbersFrom 0 (i .«bucket_count»))) (omega arith)
+      (filter-below (startAbove (i .«name_count») (storedStart order s (parts i))) bucket (i .«bucket_count») e below)))
 
   none-missed : missedNames order s i ≡ [] → NoneMissed
   none-missed nothing name below = reached (memberb name (run order s i (bucketOf i (storedHash order s (parts i) name)))) refl
@@ -139,7 +125,7 @@ module _ (order : RunTimeEndian) (s : List ℕ) (i : NameIndex) where
       reached false e = absurd (no-members name (missedNames order s i) (ap length nothing) (missed-exactly order s i name .1 (below, e)))
 
   -- what the check says where it says complete
-  check-complete : tableCheck order s i ≡ answered complete → Taken order s i × (missedNames order s i ≡ [])
+  pub check-complete : tableCheck order s i ≡ answered complete → Taken order s i × (missedNames order s i ≡ [])
   check-complete e =
       ⊎-elim
       (λ (no-buckets, same). absurd (no-table-complete same))
@@ -197,14 +183,20 @@ module _ (order : RunTimeEndian) (s : List ℕ) (i : NameIndex) where
   names-back [] = refl
   names-back (name ∷ names) = ap (λ l. name ∷ l) (names-back names)
 
+  -- a name is one of all names that store its own hash, and what a hash lists is in the run of its bucket
+  pub stores-own : (name : ℕ) → name < i .«name_count» → memberb name (allStoring order s i (storedHash order s (parts i) name)) ≡ true
+  unfolding allStoring storing namesFrom
+  stores-own name below = filter-below (λ n. eqb (hashOf n) (hashOf name)) name (i .«name_count» - 0) (eq-eqb (hashOf name) (hashOf name) refl) (omega arith)
+
+  pub listed-run : (name hash : ℕ) → memberb name (namesOfHash order s i hash) ≡ true → memberb name (run order s i (bucketOf i hash)) ≡ true
+  unfolding namesOfHash storing
+  listed-run name hash h = member-filter (λ n. eqb (hashOf n) hash) name (run order s i (bucketOf i hash)) h
+
   lists-reach : (name : ℕ) → name < i .«name_count» → ListsAll order s i (storedHash order s (parts i) name) → memberb name (run order s i (bucketOf i (storedHash order s (parts i) name))) ≡ true
-  unfolding allStoring namesOfHash storing namesFrom
   lists-reach name below (c, given, (steps, linked, ended), lists) =
       let both : hashNames (namesOfHash order s i hash) ≡ hashNames (allStoring order s i hash) = sym (steps-name hash c steps given linked ended) ∙ lists steps linked ended in
       let same : namesOfHash order s i hash ≡ allStoring order s i hash = sym (names-back (namesOfHash order s i hash)) ∙ ap (map shown) both ∙ names-back (allStoring order s i hash) in
-      let there : memberb name (allStoring order s i hash) ≡ true
-      = filter-member (λ n. eqb (hashOf n) hash) name (numbersFrom 0 (i .«name_count» - 0)) (eq-eqb hash hash refl) (member-numbers name 0 (i .«name_count» - 0) (omega arith) (omega arith)) in
-      member-filter (λ n. eqb (hashOf n) hash) name (run order s i (bucketOf i hash)) (rw (sym same) at there)
+      listed-run name hash (rw (sym same) at (stores-own name below))
     where
       hash : ℕ
       hash = storedHash order s (parts i) name

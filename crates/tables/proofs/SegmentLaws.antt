@@ -10,10 +10,10 @@ use borrow.Author.Tests.{ltb-true, ltb-false, leb-true, leb-false, lt-leb, eqb-t
 use Rattle.index.specs.declared.layout.NameIndex.{NameIndex}
 use Rattle.reader.specs.Lists.{memberb}
 use Rattle.hashes.specs.Table.{bucketOf, runFrom, fromStart}
-use Rattle.reader.proofs.ListLaws.{past-other}
+use Rattle.reader.proofs.ListLaws.{never-true, past-other}
 use Rattle.hashes.proofs.TableLaws.{bucket-below, in-run, of-run}
 use Rattle.tables.specs.declared.Segment.{Segment}
-use Rattle.tables.specs.Segments.{reachedFrom, followed}
+use Rattle.tables.specs.Segments.{noSegment, reachedFrom, followed}
 
 module _ (i : NameIndex) (startOf hashOf : ℕ → ℕ) where
   -- the segment before a name: all names from its first on belong to its bucket, the one before its first does not, it has the name before
@@ -24,10 +24,11 @@ module _ (i : NameIndex) (startOf hashOf : ℕ → ℕ) where
     pub together : (m : ℕ) → first ≤ m → m < name → bucketOf i (hashOf m) ≡ g .bucket
     pub apart : 0 < first → bucketOf i (hashOf (first - 1)) ≡ g .bucket → ⊥
     pub last : 0 < name → first < name
-    pub reaches : g .bucket < i .«bucket_count» → g .from ≡ reachedFrom i (startOf (g .bucket)) first
+    pub reaches : g .bucket < i .«bucket_count» → g .from ≡ reachedFrom (i .«name_count») (startOf (g .bucket)) first
 
   -- before the first name there is none
-  pub before-first : Before 0 (record { bucket = i .«bucket_count»; from = 0 })
+  pub before-first : Before 0 (noSegment i)
+  unfolding noSegment
   before-first = record {
     first = 0;
     begins = omega arith;
@@ -42,7 +43,7 @@ module _ (i : NameIndex) (startOf hashOf : ℕ → ℕ) where
   before-next name g b = tested (eqb (bucketOf i (hashOf name)) (g .bucket)) refl
     where
       new : Segment
-      new = record { bucket = bucketOf i (hashOf name); from = reachedFrom i (startOf (bucketOf i (hashOf name))) name }
+      new = record { bucket = bucketOf i (hashOf name); from = reachedFrom (i .«name_count») (startOf (bucketOf i (hashOf name))) name }
 
       tested : (t : Bool) → eqb (bucketOf i (hashOf name)) (g .bucket) ≡ t → Before (name + 1) (cond t g new)
       tested true e =
@@ -81,7 +82,7 @@ module _ (i : NameIndex) (startOf hashOf : ℕ → ℕ) where
   followed-bucket name g = tested (eqb (bucketOf i (hashOf name)) (g .bucket)) refl
     where
       tested : (t : Bool) → eqb (bucketOf i (hashOf name)) (g .bucket) ≡ t
-          → cond t g (record { bucket = bucketOf i (hashOf name); from = reachedFrom i (startOf (bucketOf i (hashOf name))) name }) .bucket ≡ bucketOf i (hashOf name)
+          → cond t g (record { bucket = bucketOf i (hashOf name); from = reachedFrom (i .«name_count») (startOf (bucketOf i (hashOf name))) name }) .bucket ≡ bucketOf i (hashOf name)
       tested true e = sym (eqb-true _ _ e)
       tested false e = refl
 
@@ -98,11 +99,6 @@ module _ (i : NameIndex) (startOf hashOf : ℕ → ℕ) where
       start : ℕ
       start = startOf (bucketOf i (hashOf name))
 
-      -- where the run cannot have the name
-      not-in : (t : Bool) → memberb name (runFrom i hashOf bucket (start - 1)) ≡ t → (memberb name (runFrom i hashOf bucket (start - 1)) ≡ true → ⊥) → false ≡ t
-      not-in true e never = absurd (never e)
-      not-in false e never = refl
-
       tested : (t u v : Bool) → leb start (b .first) ≡ t → leb (start - 1) name ≡ u → eqb start 0 ≡ v
           → leb (cond t (i .«name_count») (start - 1)) name ≡ memberb name (cond v [] (runFrom i hashOf bucket (start - 1)))
       tested true u true e f k = lt-leb (i .«name_count») name below
@@ -110,15 +106,15 @@ module _ (i : NameIndex) (startOf hashOf : ℕ → ℕ) where
           let before = leb-true start (b .first) e in
           let begins = b .last (omega arith) in
           lt-leb (i .«name_count») name below
-          ∙ not-in (memberb name (runFrom i hashOf bucket (start - 1))) refl
-          (λ h. let (above, below, all) = of-run i hashOf bucket name (start - 1) h in b .apart (some-before before (eqb-false start 0 k)) (all (b .first - 1) (omega arith) (omega arith) ∙ sym same))
+          ∙ sym (never-true (memberb name (runFrom i hashOf bucket (start - 1)))
+          (λ h. let (above, below, all) = of-run i hashOf bucket name (start - 1) h in b .apart (some-before before (eqb-false start 0 k)) (all (b .first - 1) (omega arith) (omega arith) ∙ sym same)))
         where
           some-before : start ≤ b .first → (start ≡ 0 → ⊥) → 0 < b .first
           some-before h other = let least = past-other start 0 (omega arith) other in omega arith
       tested false u true e f k = absurd (omega (arith, leb-false start (b .first) e, eqb-true start 0 k))
       tested false false false e f k =
           let past = leb-false (start - 1) name f in
-          f ∙ not-in (memberb name (runFrom i hashOf bucket (start - 1))) refl (λ h. let (above, below, all) = of-run i hashOf bucket name (start - 1) h in omega arith)
+          f ∙ sym (never-true (memberb name (runFrom i hashOf bucket (start - 1))) (λ h. let (above, below, all) = of-run i hashOf bucket name (start - 1) h in omega arith))
       tested false true false e f k =
           let after = leb-false start (b .first) e in
           let upto = leb-true (start - 1) name f in

@@ -3,13 +3,13 @@
 use Prim.Native.Nat.{ℕ, _≤_, _<_}
 use mathlib.Core.Path.{_≡_}
 use mathlib.Core.Bool.{true, false}
-use mathlib.Core.Logic.{_↔_}
+use mathlib.Core.Logic.{_↔_, _⊎_}
 use mathlib.Core.List.{List}
 use lib.ListN.{length}
-use Rattle.reader.specs.Outcome.{answered}
 use Rattle.reader.specs.Lists.{memberb}
 use Rattle.reader.specs.Steps.{Linked, hasEnd, upToEnd}
 use Rattle.reader.specs.declared.endianity.RunTimeEndian.{RunTimeEndian}
+use Rattle.reader.specs.declared.error.Error.{Error}
 use Rattle.index.specs.declared.layout.NameIndex.{NameIndex}
 use Rattle.index.specs.Layout.{parts}
 use Rattle.hashes.specs.declared.hash.NameHashIter.{NameHashIter}
@@ -21,7 +21,7 @@ use Rattle.hashes.specs.Answers.{hashOutcome, hashStepOf}
 use Rattle.hashes.specs.Demand3.{hashAnswers, hashNames}
 use Rattle.tables.specs.declared.Incomplete.{Incomplete}
 use Rattle.tables.specs.declared.TableCheck.{TableCheck}
-use Rattle.tables.specs.Check.{Checked, incomplete, checkOutcome, missedNames, tableCheck}
+use Rattle.tables.specs.Check.{checkOutcome, missedNames, tableCheck}
 
 -- The missed names are the names of the index that the run of their own bucket does not reach, and no other number. Each stands once, since they
 -- are picked from 0, 1 and on, below N.
@@ -30,13 +30,14 @@ MissedExactly =
     (order : RunTimeEndian) (s : List ℕ) (i : NameIndex) (name : ℕ)
     → (memberb name (missedNames order s i) ≡ true) ↔ ((name < i .«name_count») × (memberb name (run order s i (bucketOf i (storedHash order s (parts i) name))) ≡ false))
 
--- Where the check answers of an index with a hash table, and a name is missed, the answer is incomplete.
+-- Where a name of an index with a hash table is missed, the check says so, or refuses.
 abbrev pub MissedTold : Type 0
 MissedTold =
-    (order : RunTimeEndian) (s : List ℕ) (i : NameIndex) (a : Checked) (name : ℕ)
-    → answered a ≡ tableCheck order s i → 0 < i .«bucket_count» → memberb name (missedNames order s i) ≡ true → (lost : Incomplete) × (a ≡ incomplete lost)
+    (order : RunTimeEndian) (s : List ℕ) (i : NameIndex) (name : ℕ) (r : TableCheck)
+    → 0 < i .«bucket_count» → memberb name (missedNames order s i) ≡ true → checkOutcome r ≡ tableCheck order s i
+    → ((lost : Incomplete) × (r ≡ TableCheck.Incomplete lost)) ⊎ ((e : Error) × (r ≡ TableCheck.Refused e))
 
--- Where the answer is incomplete: `missed` is how many names are missed; `name` is one of them, and none of them has a smaller number; and
+-- Where it says incomplete: `missed` is how many names are missed; `name` is one of them, and none of them has a smaller number; and
 -- `hash` is the one that is stored for it.
 abbrev pub LostLeast : Type 0
 LostLeast =

@@ -8,20 +8,25 @@ use Rattle.hashes.specs.Table.{bucketOf}
 use Rattle.tables.specs.declared.Segment.{Segment}
 use Rattle.tables.specs.declared.Count.{Count}
 
--- Of a segment that begins with the name `first`, the first name that a run with this start reaches: a start is one more than the number of a
--- name. A run that starts before the segment has ended before it, and a start of 0 is none: then it is N, which is no name.
-unfoldable pub reachedFrom : NameIndex → ℕ → ℕ → ℕ
-reachedFrom i start first = cond (leb start first) (i .«name_count») (start - 1)
+-- before the first name: a segment of a bucket that no name has
+unfoldable pub noSegment : NameIndex → Segment
+noSegment i = record { bucket = i .«bucket_count»; from = 0 }
+
+-- The number from which on a run with this start reaches names of a segment that begins with the name `first`, if the segment goes so far: a start
+-- is one more than the number of a name. A run that starts before the segment has ended before it, and a start of 0 is none: then it is N,
+-- which no name reaches.
+unfoldable pub reachedFrom : ℕ → ℕ → ℕ → ℕ
+reachedFrom names start first = cond (leb start first) names (start - 1)
 
 -- the segment of a name that stores the hash: that of the name before it where the bucket is the same, else a new one, which this name begins
 unfoldable pub followed : NameIndex → (ℕ → ℕ) → Segment → ℕ → ℕ → Segment
 followed i startOf before name hash = cond (eqb (bucketOf i hash) (before .bucket))
     before
-    (record { bucket = bucketOf i hash; from = reachedFrom i (startOf (bucketOf i hash)) name })
+    (record { bucket = bucketOf i hash; from = reachedFrom (i .«name_count») (startOf (bucketOf i hash)) name })
 
 -- one more missed name behind those before it: it is the smallest if it is the first; `least` says nothing while `missed` is 0
 unfoldable pub oneMore : Count → ℕ → Count
-oneMore before name = cond (eqb (before .missed) 0) (record { missed = 1; least = name }) (record { missed = before .missed + 1; least = before .least })
+oneMore before name = record { missed = before .missed + 1; least = cond (eqb (before .missed) 0) name (before .least) }
 
 -- the missed names up to and with a name of the segment, from those before it
 unfoldable pub countedAt : Count → Segment → ℕ → Count

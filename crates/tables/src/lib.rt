@@ -9,7 +9,7 @@ ghost use Prim.Native.Nat.{_+_, _*_, _^_, _≤_, _<_};
 ghost use lib.ListN.{length};
 ghost use Rattle.hashes.specs.Table.{nthOf, bucketOf};
 ghost use Rattle.tables.specs.Check.{checkOutcome, anyAbove, tableCheck};
-ghost use Rattle.tables.specs.Segments.{reachedFrom, followed, countedAt};
+ghost use Rattle.tables.specs.Segments.{noSegment, reachedFrom, followed, countedAt};
 use hashes::bucket_of;
 use hashes::nth_u32;
 use index::NameIndex;
@@ -36,8 +36,8 @@ pub enum TableCheck {
     Refused(Error),
 }
 
-// The names that precede a name without a break in one bucket: the bucket, and the first of them that its run reaches, or else the number of
-// names, which is no name.
+// The names that precede a name without a break in one bucket: the bucket, and the number from which on its run reaches names of the segment.
+// That is the number of names where the run starts before the segment, and so has ended before it.
 pub struct Segment {
     pub bucket: u32,
     pub from: u32,
@@ -66,12 +66,22 @@ fn any_above(order: RunTimeEndian, section: &[u8], starts: usize, buckets: u32, 
     false
 }
 
-// Of a segment that begins with the name `first`, the first name that a run with this start reaches, or else the number of names.
-fn reached_from(index: NameIndex, start: u32, first: u32) -> u32
-    ensures { λ r. ⌜ r ≡ reachedFrom index start first ⌝ }
+// Before the first name: a segment of a bucket that no name has, so that the first name begins a segment.
+fn no_segment(index: NameIndex) -> Segment
+    ensures { λ r. ⌜ r ≡ noSegment index ⌝ }
+{
+    Segment {
+        bucket: index.bucket_count,
+        from: 0,
+    }
+}
+
+// The number from which on a run with this start reaches names of a segment that begins with the name `first`, among so many names.
+fn reached_from(names: u32, start: u32, first: u32) -> u32
+    ensures { λ r. ⌜ r ≡ reachedFrom names start first ⌝ }
 {
     if start <= first {
-        return index.name_count;
+        return names;
     }
     start - 1
 }
@@ -96,7 +106,7 @@ fn follow(
     let start = nth_u32(order, section, starts, bucket);
     Segment {
         bucket: bucket,
-        from: reached_from(index, start, name),
+        from: reached_from(index.name_count, start, name),
     }
 }
 
@@ -108,14 +118,15 @@ fn counted(before: Count, segment: Segment, name: u32) -> Count
     if segment.from <= name {
         return before;
     }
+    let missed = before.missed + 1;
     if before.missed == 0 {
         return Count {
-            missed: 1,
+            missed: missed,
             least: name,
         };
     }
     Count {
-        missed: before.missed + 1,
+        missed: missed,
         least: before.least,
     }
 }
@@ -137,12 +148,8 @@ pub fn check_table(order: RunTimeEndian, section: &[u8], index: NameIndex) -> Ta
     if any_above(order, section, starts, index.bucket_count, index.name_count) {
         return TableCheck::Refused(Error::UnexpectedEof(hashes));
     }
-    // Before the first name the segment has a bucket that no name has, so that the first name begins a segment.
-    let mut segment = Segment {
-        bucket: index.bucket_count,
-        from: 0,
-    };
-    let mut passed = Count {
+    let mut segment = no_segment(index);
+    let mut count = Count {
         missed: 0,
         least: 0,
     };
@@ -150,16 +157,16 @@ pub fn check_table(order: RunTimeEndian, section: &[u8], index: NameIndex) -> Ta
     while name < index.name_count {
         let hash = nth_u32(order, section, hashes, name);
         segment = follow(order, section, index, starts, segment, name, hash);
-        passed = counted(passed, segment, name);
+        count = counted(count, segment, name);
         name = name + 1;
     }
-    if passed.missed == 0 {
+    if count.missed == 0 {
         return TableCheck::Complete;
     }
-    let hash = nth_u32(order, section, hashes, passed.least);
+    let hash = nth_u32(order, section, hashes, count.least);
     TableCheck::Incomplete(Incomplete {
-        missed: passed.missed,
-        name: NameTableIndex(passed.least),
+        missed: count.missed,
+        name: NameTableIndex(count.least),
         hash: hash,
     })
 }

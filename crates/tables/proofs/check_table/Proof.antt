@@ -12,10 +12,10 @@ use Rattle.tables.proofs.check_table.Statement.{statement}
 use Rattle.tables.proofs.check_table.Tie as tie
 
 abbrev Inv-loop : tie.InvT-loop
-Inv-loop order section index starts hashes segment₀ passed₀ name₀ segment passed name = Counting order section index starts hashes segment passed name
+Inv-loop order section index starts hashes segment₀ count₀ name₀ segment count name = Counting order section index starts hashes segment count name
 
 abbrev μ-loop : tie.MeasureT-loop
-μ-loop order section index starts hashes segment₀ passed₀ name₀ segment passed name = index .«name_count» - name
+μ-loop order section index starts hashes segment₀ count₀ name₀ segment count name = index .«name_count» - name
 
 fit-requires : tie.Need-fit-requires Inv-loop μ-loop
 fit-requires c κs = search needs
@@ -57,8 +57,13 @@ returns-3 c =
       c .if2 .taken,
     )
 
+no-segment-requires : tie.Need-no-segment-requires Inv-loop μ-loop
+no-segment-requires c κs = search needs
+
 loop-holds : tie.Need-loop-holds Inv-loop μ-loop
-loop-holds c = counting-first _ _ _ _ (rw (c .before .before .before .before .before .p .given .1) at (c .before .before .before .before .before .before .before .fit .ensures)) (c .before .before .if1 .left)
+loop-holds c =
+    rw (c .no-segment .ensures)
+    (counting-first _ _ _ _ (rw (c .before .before .before .before .before .before .p .given .1) at (c .before .before .before .before .before .before .before .before .fit .ensures)) (c .before .before .before .if1 .left))
 
 nth-u32-requires : tie.Need-nth-u32-requires Inv-loop μ-loop
 nth-u32-requires c κs = hash-inside _ _ _ _ _ _ _ _ (c .before .before .loop .inv) _ (c .if3 .taken)
@@ -91,11 +96,11 @@ returns-4 : tie.Need-returns-4 Inv-loop μ-loop
 unfolding tableCheck storedStart
 returns-4 c =
     rw (
-      ← c .before .before .before .before .before .before .before .before .before .before .before .before .fit .ensures,
-      c .before .before .before .before .before .before .before .before .before .before .p .given .1,
-      ne-eqb _ _ (c .before .before .before .before .before .before .before .if1 .left),
-      ← c .before .before .before .before .before .before .any-above .ensures,
-      c .before .before .before .before .before .if2 .left,
+      ← c .before .before .before .before .before .before .before .before .before .before .before .before .before .fit .ensures,
+      c .before .before .before .before .before .before .before .before .before .before .before .p .given .1,
+      ne-eqb _ _ (c .before .before .before .before .before .before .before .before .if1 .left),
+      ← c .before .before .before .before .before .before .before .any-above .ensures,
+      c .before .before .before .before .before .before .if2 .left,
       none-counted _ _ _ _ _ _ _ _ (c .before .before .before .before .loop .inv) _ (c .before .before .if3 .left) (c .if4 .taken),
     )
 
@@ -108,11 +113,11 @@ returns-5 : tie.Need-returns-5 Inv-loop μ-loop
 unfolding tableCheck storedStart storedHash
 returns-5 c =
     rw (
-      ← c .before .before .before .before .before .before .before .before .before .before .before .before .before .fit .ensures,
-      c .before .before .before .before .before .before .before .before .before .before .before .p .given .1,
-      ne-eqb _ _ (c .before .before .before .before .before .before .before .before .if1 .left),
-      ← c .before .before .before .before .before .before .before .any-above .ensures,
-      c .before .before .before .before .before .before .if2 .left,
+      ← c .before .before .before .before .before .before .before .before .before .before .before .before .before .before .fit .ensures,
+      c .before .before .before .before .before .before .before .before .before .before .before .before .p .given .1,
+      ne-eqb _ _ (c .before .before .before .before .before .before .before .before .before .if1 .left),
+      ← c .before .before .before .before .before .before .before .before .any-above .ensures,
+      c .before .before .before .before .before .before .before .if2 .left,
       some-counted _ _ _ _ _ _ _ _ (c .before .before .before .before .before .loop .inv) _ (c .before .before .before .if3 .left) (c .before .if4 .left),
       ← c .nth-u322 .ensures,
     )
@@ -130,6 +135,7 @@ check-table-spec =
     returns-2
     any-above-requires
     returns-3
+    no-segment-requires
     loop-holds
     nth-u32-requires
     follow-requires

@@ -29,7 +29,7 @@ returns-2 : tie.Need-returns-2
 unfolding followed
 returns-2 c =
     let args = c .before .before .before .before .before .before .args in
-    let told : c .reached-from .result ≡ reachedFrom (args .index) (c .before .nth-u32 .result) (args .name) = c .reached-from .ensures in
+    let told : c .reached-from .result ≡ reachedFrom (args .index .«name_count») (c .before .nth-u32 .result) (args .name) = c .reached-from .ensures in
     rw (
       ← c .before .before .before .before .bucket-of .ensures,
       ne-eqb _ _ (c .before .before .if1 .left),

@@ -10,7 +10,7 @@ returns : tie.Need-returns
 unfolding reachedFrom
 returns c =
     rw
-    (le-leb _ _ (c .if1 .taken))
+    (le-leb (c .before .args .start) (c .before .args .first) (c .if1 .taken))
 
 sub-result : tie.Need-sub-result
 sub-result c = search needs
