@@ -1,4 +1,5 @@
--- What the table check names in case A with another second start: the definitions by computation, the rest by the theorems.
+-- What the table check names in case A with another second start, and in two tables of their own: the definitions by computation, the rest by the
+-- theorems.
 use mathlib.Core.Path.{refl}
 use native.Mathlib.Omega.{arith}
 use Rattle.reader.specs.Errors.{longest}
@@ -10,7 +11,7 @@ use Rattle.hashes.specs.Table.{nthOf, storedStart, storedHash, bucketOf, namesF
 use Rattle.tables.specs.Check.{startAbove, anyAbove, isMissed, missedNames, verdict, tableCheck}
 use Rattle.tables.proofs.LostLaws.{lost-least, lost-not-listed}
 use Rattle.p_cases.specs.CaseA.{caseA, indexA, secondStart}
-use Rattle.p_cases.specs.Lost.{lostTwo, LostSupposes, LostInA, LostComputed, startless, startlessIndex, LostByNumber}
+use Rattle.p_cases.specs.Lost.{lostTwo, LostSupposes, LostInA, LostComputed, words, tableOf, tableIndex, LostByNumber, LostBesideFound}
 
 pub lost-supposes : LostSupposes
 unfolding caseA indexA secondStart nthOf storedStart storedHash bucketOf namesFrom runFrom fromStart run numbersFrom filterb takeWhile memberb numberAt spelled digits fitted parts place placesFrom sizes wordBytes hashBytes longest startAbove anyAbove isMissed missedNames verdict tableCheck
@@ -26,5 +27,9 @@ unfolding caseA indexA secondStart nthOf storedStart storedHash bucketOf namesFr
 lost-computed = (refl, refl, refl, refl)
 
 pub lost-by-number : LostByNumber
-unfolding startless startlessIndex nthOf storedStart storedHash bucketOf namesFrom runFrom fromStart run numbersFrom filterb takeWhile memberb numberAt spelled digits fitted parts place placesFrom sizes wordBytes hashBytes longest startAbove anyAbove isMissed missedNames verdict tableCheck
+unfolding words tableOf tableIndex nthOf storedStart storedHash bucketOf namesFrom runFrom fromStart run numbersFrom filterb takeWhile memberb numberAt spelled digits fitted parts place placesFrom sizes wordBytes hashBytes longest startAbove anyAbove isMissed missedNames verdict tableCheck
 lost-by-number = refl
+
+pub lost-beside-found : LostBesideFound
+unfolding words tableOf tableIndex nthOf storedStart storedHash bucketOf namesFrom runFrom fromStart run numbersFrom filterb takeWhile memberb numberAt spelled digits fitted parts place placesFrom sizes wordBytes hashBytes longest startAbove anyAbove isMissed missedNames verdict tableCheck storing namesOfHash allStoring
+lost-beside-found = (refl, refl, refl)

@@ -253,6 +253,7 @@ linesMissing missed =
     item (Line.Index (record { place = record { 0 = 0 }; «name_count» = 3; «bucket_count» = 2; missed = Missed.Some missed }))
     (item (nameLineOf 0 4 1) (item (nameLineOf 1 7 5) (item (nameLineOf 2 9 6) (item (Line.Indexes 1) ended))))
 
--- where a table loses names, the line has their number alone (document 02, No. 2)
+-- its listing; and with second start 4 the same lines, where only the count of missed names differs: the lost name and its hash are not printed
+-- (document 02, No. 2)
 abbrev pub ListingOfA : Type 0
 ListingOfA = (sectionLines RunTimeEndian.Little caseA ≡ linesMissing 0) × (sectionLines RunTimeEndian.Little (secondStart 4) ≡ linesMissing 2)

@@ -1,5 +1,5 @@
 -- Document 01, "Bytes to try": the cases marked P, as a computed list of the definitions. `given` is what the definitions say,
--- `expected` what document 01 says, and document 02 (No. 2) of the name that an incomplete table loses.
+-- `expected` what document 01 says, and document 02 (No. 2) of the first name that an incomplete table loses.
 use Prim.Native.Nat.{ℕ}
 use mathlib.Core.Path.{_≡_}
 use mathlib.Core.List.{List, [], _∷_, _++_}

@@ -67,8 +67,9 @@ hashAnswerAt next (refused n v) = record { status = n; kind = 0; value = v; next
 abbrev pub hashStepAnswer : Step NameTableIndex NameHashIter → HashAnswer
 hashStepAnswer t = hashAnswerAt (t .cursor) (t .answer)
 
--- the table check. Kind 0 is no hash table; 1 is complete; 2 is incomplete: `value` is how many names are missed, `name` the smallest number among
--- them, and `hash` the hash that is stored for that name. Elsewhere these are 0, but for the value of a refusal.
+-- the table check. With status 0, kind 0 is no hash table, 1 is complete, and 2 is incomplete: `value` is how many names are missed, `name` the
+-- smallest number among them, and `hash` the hash that is stored for that name. A refusal has its number as status, its value, and kind 0. All
+-- else is 0.
 abbrev pub tableAnswer : Outcome Checked → TableAnswer
 tableAnswer (answered no-table) = record { status = 0; kind = 0; value = 0; name = 0; hash = 0 }
 tableAnswer (answered complete) = record { status = 0; kind = 1; value = 0; name = 0; hash = 0 }

@@ -1,5 +1,5 @@
 -- What the table check answers. Check: the check, by the names that are missed. Segments: how the loop goes through the names. Demand3: when a table
--- is complete. Sanity: what an incomplete answer names.
+-- is complete. Sanity: which names are missed, and what an incomplete answer names.
 pub mod Check
 pub mod Segments
 pub mod Demand3

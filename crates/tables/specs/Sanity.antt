@@ -23,8 +23,8 @@ use Rattle.tables.specs.declared.Incomplete.{Incomplete}
 use Rattle.tables.specs.declared.TableCheck.{TableCheck}
 use Rattle.tables.specs.Check.{checkOutcome, missedNames, tableCheck}
 
--- The missed names are the names of the index that the run of their own bucket does not reach, and no other number. Each stands once, since they
--- are picked from 0, 1 and on, below N.
+-- The missed names are the names of the index that the run of their own bucket does not reach, and no other number. That each stands once is plain
+-- from the definition: they are picked from 0, 1 and on, below N.
 abbrev pub MissedExactly : Type 0
 MissedExactly =
     (order : RunTimeEndian) (s : List ℕ) (i : NameIndex) (name : ℕ)
@@ -57,7 +57,8 @@ ListsWithout order s i hash name =
     × ((steps : List NameHashStep) → Linked hashStepOf (hashStep order s i) c steps → hasEnd (hashAnswers steps) ≡ true
     → (names : List ℕ) × (upToEnd (hashAnswers steps) ≡ hashNames names) × (memberb name names ≡ false))
 
--- So the name is what a user does not find: it is one of all names that store the hash, and the lookup of the hash lists names without it.
+-- So the name is one that whoever stops at the first end, as the section query does, does not find: it is one of all names that store the hash, and
+-- the lookup of the hash lists names without it.
 abbrev pub LostNotListed : Type 0
 LostNotListed =
     (order : RunTimeEndian) (s : List ℕ) (i : NameIndex) (lost : Incomplete) → checkOutcome (TableCheck.Incomplete lost) ≡ tableCheck order s i

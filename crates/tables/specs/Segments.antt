@@ -8,13 +8,13 @@ use Rattle.hashes.specs.Table.{bucketOf}
 use Rattle.tables.specs.declared.Segment.{Segment}
 use Rattle.tables.specs.declared.Count.{Count}
 
--- before the first name: a segment of a bucket that no name has
+-- before the first name: the bucket is B, which no name has where B is not 0
 unfoldable pub noSegment : NameIndex → Segment
 noSegment i = record { bucket = i .«bucket_count»; from = 0 }
 
 -- The number from which on a run with this start reaches names of a segment that begins with the name `first`, if the segment goes so far: a start
--- is one more than the number of a name. A run that starts before the segment has ended before it, and a start of 0 is none: then it is N,
--- which no name reaches.
+-- is one more than the number of a name. A run that starts before the segment has ended before it, since the name before the segment is of another
+-- bucket, and a start of 0 is none: then it is N, which no name reaches.
 unfoldable pub reachedFrom : ℕ → ℕ → ℕ → ℕ
 reachedFrom names start first = cond (leb start first) names (start - 1)
 
@@ -28,6 +28,6 @@ followed i startOf before name hash = cond (eqb (bucketOf i hash) (before .bucke
 unfoldable pub oneMore : Count → ℕ → Count
 oneMore before name = record { missed = before .missed + 1; least = cond (eqb (before .missed) 0) name (before .least) }
 
--- the missed names up to and with a name of the segment, from those before it
+-- how many names are missed, and the smallest, up to and with a name of the segment, from those before it
 unfoldable pub countedAt : Count → Segment → ℕ → Count
 countedAt before segment name = cond (leb (segment .from) name) before (oneMore before name)
