@@ -7,7 +7,7 @@ use mathlib.Core.Logic.{_⊎_, inl, inr, ⊎-elim}
 use mathlib.Core.List.{List, [], _∷_, _++_, append-nil}
 use native.Mathlib.Omega.{arith}
 use lib.ListN.{length, length-append}
-use lib.Dec.{ltb, leb, eqb}
+use lib.Dec.{ltb, eqb}
 use borrow.Author.Tests.{lt-ltb, eqb-true, eqb-false, ne-eqb}
 use Rattle.reader.specs.Outcome.{answered, refuseIf}
 use Rattle.reader.specs.Errors.{longest}
@@ -23,7 +23,7 @@ use Rattle.reader.proofs.ListLaws.{false-true, numbers-length, filter-length, f
 use Rattle.hashes.proofs.TableLaws.{buckets-end, hashes-end, strings-inside, bucket-below}
 use Rattle.tables.specs.declared.Segment.{Segment}
 use Rattle.tables.specs.declared.Count.{Count}
-use Rattle.tables.specs.Segments.{noSegment, followed, oneMore, countedAt}
+use Rattle.tables.specs.Segments.{noSegment, followed, reachedBy, oneMore, countedAt}
 use Rattle.tables.proofs.SegmentLaws.{Before, before-first, before-next, followed-bucket, reached-member}
 use Rattle.tables.specs.Sanity.{MissedExactly}
 use Rattle.tables.specs.Check.{Checked, no-table, complete, incomplete, startAbove, anyAbove, isMissed, missedNames, verdict, tableCheck}
@@ -167,7 +167,7 @@ pub record Counting (order : RunTimeEndian) (s : List ℕ) (i : NameIndex) (star
   pub some : 0 < i .«bucket_count»
   pub within : name ≤ i .«name_count»
   pub counted : count ≡ kept (missedBelow order s i name)
-  pub before : Before i (storedStart order s (parts i)) (storedHash order s (parts i)) name g
+  pub before : Before i (storedHash order s (parts i)) name g
 
 pub counting-first : (order : RunTimeEndian) (s : List ℕ) (i : NameIndex) (p : Parts) → answered p ≡ fitted s i → (i .«bucket_count» ≡ 0 → ⊥)
     → Counting order s i (p .«bucket_data») (p .«hash_table_data») (noSegment i) (record { missed = 0; least = 0 }) 0
@@ -181,7 +181,7 @@ counting-first order s i p given other =
       some = past-other (i .«bucket_count») 0 (omega arith) other;
       within = omega arith;
       counted = refl;
-      before = before-first i (storedStart order s (parts i)) (storedHash order s (parts i));
+      before = before-first i (storedHash order s (parts i));
     }
 
 module _ (order : RunTimeEndian) (s : List ℕ) (i : NameIndex) (starts hashes : ℕ) (g : Segment) (count : Count) (name : ℕ) (k : Counting order s i starts hashes g count name) where
@@ -189,8 +189,10 @@ module _ (order : RunTimeEndian) (s : List ℕ) (i : NameIndex) (starts hashes :
   pub hash-inside : (n : ℕ) → n < i .«name_count» → hashes + 4 * n + 4 ≤ length s
   hash-inside n below = omega (arith, k .at-hashes, hashes-end i (k .some), strings-inside s i (k .fits))
 
-  pub start-inside : (hash : ℕ) → starts + 4 * bucketOf i hash + 4 ≤ length s
-  start-inside hash = omega (arith, k .at-starts, buckets-end i, hashes-end i (k .some), strings-inside s i (k .fits), bucket-below i hash (k .some))
+  pub start-inside : (after : Segment) → after ≡ followed i g name (nthOf order s hashes name) → starts + 4 * after .bucket + 4 ≤ length s
+  start-inside after is =
+      rw (is, followed-bucket i (nthOf order s hashes) name g)
+      (omega (arith, k .at-starts, buckets-end i, hashes-end i (k .some), strings-inside s i (k .fits), bucket-below i (nthOf order s hashes name) (k .some)))
 
   -- no more names are missed than were passed
   pub missed-most : count .missed ≤ name
@@ -199,30 +201,31 @@ module _ (order : RunTimeEndian) (s : List ℕ) (i : NameIndex) (starts hashes :
       let most = filter-length (isMissed order s i) (numbersFrom 0 name) in
       rw (k .counted, kept-length (missedBelow order s i name)) (rw (numbers-length 0 name) at most)
 
-  -- one more name
-  pub counting-next : name < i .«name_count»
-      → Counting order s i starts hashes (followed i (nthOf order s starts) g name (nthOf order s hashes name)) (countedAt count (followed i (nthOf order s starts) g name (nthOf order s hashes name)) name) (name + 1)
+  -- one more name, with its segment
+  pub counting-next : (after : Segment) → after ≡ followed i g name (nthOf order s hashes name) → name < i .«name_count»
+      → Counting order s i starts hashes after (countedAt count after (nthOf order s starts (after .bucket)) name) (name + 1)
   unfolding storedStart storedHash isMissed run countedAt
-  counting-next below = rw (k .at-starts, k .at-hashes) record {
-    at-starts = refl;
-    at-hashes = refl;
+  counting-next after is below = record {
+    at-starts = k .at-starts;
+    at-hashes = k .at-hashes;
     fits = k .fits;
     some = k .some;
     within = omega arith;
-    counted = rw (here, missed-last order s i name, k .counted) (one-more (memberb name (run order s i (bucketOf i (storedHash order s (parts i) name)))));
+    counted = rw (k .at-starts, here, missed-last order s i name, k .counted) (one-more (memberb name (run order s i (bucketOf i (storedHash order s (parts i) name)))));
     before = next;
   }
     where
-      after : Segment
-      after = followed i (storedStart order s (parts i)) g name (storedHash order s (parts i) name)
+      own : after ≡ followed i g name (storedHash order s (parts i) name)
+      own = rw (k .at-hashes) at is
 
-      next : Before i (storedStart order s (parts i)) (storedHash order s (parts i)) (name + 1) after
-      next = before-next i (storedStart order s (parts i)) (storedHash order s (parts i)) name g (k .before)
+      next : Before i (storedHash order s (parts i)) (name + 1) after
+      next = rw own (before-next i (storedHash order s (parts i)) name g (k .before))
 
-      here : leb (after .from) name ≡ memberb name (run order s i (bucketOf i (storedHash order s (parts i) name)))
-      here =
-          reached-member i (storedStart order s (parts i)) (storedHash order s (parts i)) name after next
-          (followed-bucket i (storedStart order s (parts i)) (storedHash order s (parts i)) name g) below (k .some)
+      of-bucket : after .bucket ≡ bucketOf i (storedHash order s (parts i) name)
+      of-bucket = rw own (followed-bucket i (storedHash order s (parts i)) name g)
+
+      here : reachedBy (storedStart order s (parts i) (after .bucket)) (after .first) name ≡ memberb name (run order s i (bucketOf i (storedHash order s (parts i) name)))
+      here = rw (sym of-bucket) (reached-member i (storedHash order s (parts i)) name after (storedStart order s (parts i) (after .bucket)) next below)
 
       one-more : (t : Bool) → cond t (kept (missedBelow order s i name)) (oneMore (kept (missedBelow order s i name)) name) ≡ kept (missedBelow order s i name ++ cond (not t) (name ∷ []) [])
       one-more true = ap kept (sym (append-nil (missedBelow order s i name)))

@@ -6,58 +6,49 @@ use mathlib.Core.Bool.{Bool, true, false, cond}
 use mathlib.Core.List.{[]}
 use native.Mathlib.Omega.{arith}
 use lib.Dec.{ltb, leb, eqb}
-use borrow.Author.Tests.{ltb-true, ltb-false, leb-true, leb-false, lt-leb, eqb-true, eqb-false}
+use borrow.Author.Tests.{ltb-true, ltb-false, leb-true, leb-false, eqb-true, eqb-false}
 use Rattle.index.specs.declared.layout.NameIndex.{NameIndex}
 use Rattle.reader.specs.Lists.{memberb}
 use Rattle.hashes.specs.Table.{bucketOf, runFrom, fromStart}
 use Rattle.reader.proofs.ListLaws.{never-true, past-other}
-use Rattle.hashes.proofs.TableLaws.{bucket-below, in-run, of-run}
+use Rattle.hashes.proofs.TableLaws.{in-run, of-run}
 use Rattle.tables.specs.declared.Segment.{Segment}
-use Rattle.tables.specs.Segments.{noSegment, reachedFrom, followed}
+use Rattle.tables.specs.Segments.{noSegment, followed, reachedBy}
 
-module _ (i : NameIndex) (startOf hashOf : ℕ → ℕ) where
-  -- the segment before a name: all names from its first on belong to its bucket, the one before its first does not, it has the name before
-  -- this one, and what its run reaches is told by the bucket's start
+module _ (i : NameIndex) (hashOf : ℕ → ℕ) where
+  -- the segment before a name: all names from its first on belong to its bucket, the one before its first does not, and it has the name before
+  -- this one
   pub record Before (name : ℕ) (g : Segment) : Type 0 where
-    pub first : ℕ
-    pub begins : first ≤ name
-    pub together : (m : ℕ) → first ≤ m → m < name → bucketOf i (hashOf m) ≡ g .bucket
-    pub apart : 0 < first → bucketOf i (hashOf (first - 1)) ≡ g .bucket → ⊥
-    pub last : 0 < name → first < name
-    pub reaches : g .bucket < i .«bucket_count» → g .from ≡ reachedFrom (i .«name_count») (startOf (g .bucket)) first
+    pub begins : g .first ≤ name
+    pub together : (m : ℕ) → g .first ≤ m → m < name → bucketOf i (hashOf m) ≡ g .bucket
+    pub apart : 0 < g .first → bucketOf i (hashOf (g .first - 1)) ≡ g .bucket → ⊥
+    pub last : 0 < name → g .first < name
 
   -- before the first name there is none
   pub before-first : Before 0 (noSegment i)
   unfolding noSegment
   before-first = record {
-    first = 0;
     begins = omega arith;
     together = λ m h k. absurd (omega arith);
     apart = λ h k. absurd (omega arith);
     last = λ h. absurd (omega arith);
-    reaches = λ h. absurd (omega arith);
   }
 
-  pub before-next : (name : ℕ) (g : Segment) → Before name g → Before (name + 1) (followed i startOf g name (hashOf name))
+  pub before-next : (name : ℕ) (g : Segment) → Before name g → Before (name + 1) (followed i g name (hashOf name))
   unfolding followed
   before-next name g b = tested (eqb (bucketOf i (hashOf name)) (g .bucket)) refl
     where
-      new : Segment
-      new = record { bucket = bucketOf i (hashOf name); from = reachedFrom (i .«name_count») (startOf (bucketOf i (hashOf name))) name }
-
-      tested : (t : Bool) → eqb (bucketOf i (hashOf name)) (g .bucket) ≡ t → Before (name + 1) (cond t g new)
+      tested : (t : Bool) → eqb (bucketOf i (hashOf name)) (g .bucket) ≡ t → Before (name + 1) (cond t g (record { bucket = bucketOf i (hashOf name); first = name }))
       tested true e =
           let begins = b .begins in
           record {
-            first = b .first;
             begins = omega arith;
             together = λ m h k. of-name m (eqb m name) refl h k;
             apart = b .apart;
             last = λ h. omega arith;
-            reaches = b .reaches;
           }
         where
-          of-name : (m : ℕ) (t : Bool) → eqb m name ≡ t → b .first ≤ m → m < name + 1 → bucketOf i (hashOf m) ≡ g .bucket
+          of-name : (m : ℕ) (t : Bool) → eqb m name ≡ t → g .first ≤ m → m < name + 1 → bucketOf i (hashOf m) ≡ g .bucket
           of-name m true same h k = rw (eqb-true m name same) (eqb-true _ _ e)
           of-name m false other h k = b .together m h (below (eqb-false m name other))
             where
@@ -68,55 +59,43 @@ module _ (i : NameIndex) (startOf hashOf : ℕ → ℕ) where
                   by-order true f = ltb-true m name f
                   by-order false f = let least = ltb-false m name f in absurd (differs (omega arith))
       tested false e = record {
-        first = name;
         begins = omega arith;
         together = λ m h k. let here : m ≡ name = omega arith in rw here;
         apart = λ h k. let begins = b .last h in eqb-false _ _ e (sym k ∙ b .together (name - 1) (omega arith) (omega arith));
         last = λ h. omega arith;
-        reaches = λ h. refl;
       }
 
   -- the segment of a name is of the name's bucket
-  pub followed-bucket : (name : ℕ) (g : Segment) → followed i startOf g name (hashOf name) .bucket ≡ bucketOf i (hashOf name)
+  pub followed-bucket : (name : ℕ) (g : Segment) → followed i g name (hashOf name) .bucket ≡ bucketOf i (hashOf name)
   unfolding followed
   followed-bucket name g = tested (eqb (bucketOf i (hashOf name)) (g .bucket)) refl
     where
-      tested : (t : Bool) → eqb (bucketOf i (hashOf name)) (g .bucket) ≡ t
-          → cond t g (record { bucket = bucketOf i (hashOf name); from = reachedFrom (i .«name_count») (startOf (bucketOf i (hashOf name))) name }) .bucket ≡ bucketOf i (hashOf name)
+      tested : (t : Bool) → eqb (bucketOf i (hashOf name)) (g .bucket) ≡ t → cond t g (record { bucket = bucketOf i (hashOf name); first = name }) .bucket ≡ bucketOf i (hashOf name)
       tested true e = sym (eqb-true _ _ e)
       tested false e = refl
 
-  -- so a name is in the run of its bucket exactly if its segment is reached at the name or before it
-  pub reached-member : (name : ℕ) (g : Segment) → Before (name + 1) g → g .bucket ≡ bucketOf i (hashOf name) → name < i .«name_count» → 0 < i .«bucket_count»
-      → leb (g .from) name ≡ memberb name (fromStart (startOf (bucketOf i (hashOf name))) (runFrom i hashOf (bucketOf i (hashOf name))))
-  unfolding reachedFrom fromStart memberb
-  reached-member name g b same below some =
-      rw (b .reaches (rw same (bucket-below i (hashOf name) some)), same) (tested (leb start (b .first)) (leb (start - 1) name) (eqb start 0) refl refl refl)
+  -- so a name is in the run of its bucket exactly if that starts in the name's segment, at the name or before it
+  pub reached-member : (name : ℕ) (g : Segment) (start : ℕ) → Before (name + 1) g → name < i .«name_count»
+      → reachedBy start (g .first) name ≡ memberb name (fromStart start (runFrom i hashOf (g .bucket)))
+  unfolding reachedBy fromStart memberb
+  reached-member name g start b below = tested (leb start (g .first)) (leb (start - 1) name) (eqb start 0) refl refl refl
     where
-      bucket : ℕ
-      bucket = bucketOf i (hashOf name)
-
-      start : ℕ
-      start = startOf (bucketOf i (hashOf name))
-
-      tested : (t u v : Bool) → leb start (b .first) ≡ t → leb (start - 1) name ≡ u → eqb start 0 ≡ v
-          → leb (cond t (i .«name_count») (start - 1)) name ≡ memberb name (cond v [] (runFrom i hashOf bucket (start - 1)))
-      tested true u true e f k = lt-leb (i .«name_count») name below
+      tested : (t u v : Bool) → leb start (g .first) ≡ t → leb (start - 1) name ≡ u → eqb start 0 ≡ v
+          → cond t false u ≡ memberb name (cond v [] (runFrom i hashOf (g .bucket) (start - 1)))
+      tested true u true e f k = refl
       tested true u false e f k =
-          let before = leb-true start (b .first) e in
+          let before = leb-true start (g .first) e in
           let begins = b .last (omega arith) in
-          lt-leb (i .«name_count») name below
-          ∙ sym (never-true (memberb name (runFrom i hashOf bucket (start - 1)))
-          (λ h. let (above, below, all) = of-run i hashOf bucket name (start - 1) h in b .apart (some-before before (eqb-false start 0 k)) (all (b .first - 1) (omega arith) (omega arith) ∙ sym same)))
+          sym (never-true (memberb name (runFrom i hashOf (g .bucket) (start - 1)))
+          (λ h. let (above, below, all) = of-run i hashOf (g .bucket) name (start - 1) h in b .apart (some-before before (eqb-false start 0 k)) (all (g .first - 1) (omega arith) (omega arith))))
         where
-          some-before : start ≤ b .first → (start ≡ 0 → ⊥) → 0 < b .first
+          some-before : start ≤ g .first → (start ≡ 0 → ⊥) → 0 < g .first
           some-before h other = let least = past-other start 0 (omega arith) other in omega arith
-      tested false u true e f k = absurd (omega (arith, leb-false start (b .first) e, eqb-true start 0 k))
+      tested false u true e f k = absurd (omega (arith, leb-false start (g .first) e, eqb-true start 0 k))
       tested false false false e f k =
           let past = leb-false (start - 1) name f in
-          f ∙ sym (never-true (memberb name (runFrom i hashOf bucket (start - 1))) (λ h. let (above, below, all) = of-run i hashOf bucket name (start - 1) h in omega arith))
+          sym (never-true (memberb name (runFrom i hashOf (g .bucket) (start - 1))) (λ h. let (above, below, all) = of-run i hashOf (g .bucket) name (start - 1) h in omega arith))
       tested false true false e f k =
-          let after = leb-false start (b .first) e in
+          let after = leb-false start (g .first) e in
           let upto = leb-true (start - 1) name f in
-          let reached = in-run i hashOf bucket name (name - (start - 1)) (start - 1) (omega arith) below (λ m h l. b .together m (omega arith) (omega arith) ∙ same) in
-          f ∙ sym reached
+          sym (in-run i hashOf (g .bucket) name (name - (start - 1)) (start - 1) (omega arith) below (λ m h l. b .together m (omega arith) (omega arith)))

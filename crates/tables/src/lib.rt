@@ -7,9 +7,9 @@
 ghost use mathlib.Core.Path.{_≡_};
 ghost use Prim.Native.Nat.{_+_, _*_, _^_, _≤_, _<_};
 ghost use lib.ListN.{length};
-ghost use Rattle.hashes.specs.Table.{nthOf, bucketOf};
+ghost use Rattle.hashes.specs.Table.{nthOf};
 ghost use Rattle.tables.specs.Check.{checkOutcome, anyAbove, tableCheck};
-ghost use Rattle.tables.specs.Segments.{noSegment, reachedFrom, followed, countedAt};
+ghost use Rattle.tables.specs.Segments.{noSegment, followed, reachedBy, countedAt};
 use hashes::bucket_of;
 use hashes::nth_u32;
 use index::NameIndex;
@@ -36,11 +36,10 @@ pub enum TableCheck {
     Refused(Error),
 }
 
-// The names that precede a name without a break in one bucket: the bucket, and the number from which on its run reaches names of the segment.
-// That is the number of names where the run starts before the segment, and so has ended before it.
+// The names that precede a name without a break in one bucket: the bucket, and the first of them.
 pub struct Segment {
     pub bucket: u32,
-    pub from: u32,
+    pub first: u32,
 }
 
 // The missed names so far: how many, and the smallest of their numbers, which is 0 as long as there is none.
@@ -72,50 +71,40 @@ fn no_segment(index: NameIndex) -> Segment
 {
     Segment {
         bucket: index.bucket_count,
-        from: 0,
+        first: 0,
     }
-}
-
-// The number from which on a run with this start reaches names of a segment that begins with the name `first`, among so many names.
-fn reached_from(names: u32, start: u32, first: u32) -> u32
-    ensures { λ r. ⌜ r ≡ reachedFrom names start first ⌝ }
-{
-    if start <= first {
-        return names;
-    }
-    start - 1
 }
 
 // The segment of a name that stores the hash, from the segment of the name before it.
-fn follow(
-    order: RunTimeEndian,
-    section: &[u8],
-    index: NameIndex,
-    starts: usize,
-    before: Segment,
-    name: u32,
-    hash: u32,
-) -> Segment
-    requires { ⌜ starts + 4 * (bucketOf index hash) + 4 ≤ length (now section) ⌝ }
-    ensures { λ r. ⌜ r ≡ followed index (nthOf order (now (section .entry)) starts) before name hash ⌝ }
+fn follow(index: NameIndex, before: Segment, name: u32, hash: u32) -> Segment
+    ensures { λ r. ⌜ r ≡ followed index before name hash ⌝ }
 {
     let bucket = bucket_of(index, hash);
     if bucket == before.bucket {
         return before;
     }
-    let start = nth_u32(order, section, starts, bucket);
     Segment {
         bucket: bucket,
-        from: reached_from(index.name_count, start, name),
+        first: name,
     }
 }
 
-// The missed names up to and with a name of the segment, from those before it, whose number has room for one more.
-fn counted(before: Count, segment: Segment, name: u32) -> Count
-    requires { ⌜ before .missed + 1 < 2 ^ 32 ⌝ }
-    ensures { λ r. ⌜ r ≡ countedAt before segment name ⌝ }
+// Whether a run with this start reaches a name of its bucket, in a segment that begins with the name `first`.
+fn is_reached(start: u32, first: u32, name: u32) -> bool
+    ensures { λ r. ⌜ r ≡ reachedBy start first name ⌝ }
 {
-    if segment.from <= name {
+    if start <= first {
+        return false;
+    }
+    start - 1 <= name
+}
+
+// The missed names up to and with a name of the segment, whose bucket has this start, from those before it, whose number has room for one more.
+fn counted(before: Count, segment: Segment, start: u32, name: u32) -> Count
+    requires { ⌜ before .missed + 1 < 2 ^ 32 ⌝ }
+    ensures { λ r. ⌜ r ≡ countedAt before segment start name ⌝ }
+{
+    if is_reached(start, segment.first, name) {
         return before;
     }
     let missed = before.missed + 1;
@@ -154,10 +143,13 @@ pub fn check_table(order: RunTimeEndian, section: &[u8], index: NameIndex) -> Ta
         least: 0,
     };
     let mut name: u32 = 0;
+    // The start is read at each name, though it is the same for all names of a segment: a test whether a segment begins comes out either way at every
+    // second or third name, a processor guesses it wrong as often, and that takes longer than the read.
     while name < index.name_count {
         let hash = nth_u32(order, section, hashes, name);
-        segment = follow(order, section, index, starts, segment, name, hash);
-        count = counted(count, segment, name);
+        segment = follow(index, segment, name, hash);
+        let start = nth_u32(order, section, starts, segment.bucket);
+        count = counted(count, segment, start, name);
         name = name + 1;
     }
     if count.missed == 0 {

@@ -69,12 +69,15 @@ nth-u32-requires : tie.Need-nth-u32-requires Inv-loop μ-loop
 nth-u32-requires c κs = hash-inside _ _ _ _ _ _ _ _ (c .before .before .loop .inv) _ (c .if3 .taken)
 
 follow-requires : tie.Need-follow-requires Inv-loop μ-loop
-follow-requires c κs = start-inside _ _ _ _ _ _ _ _ (c .before .before .before .loop .inv) _
+follow-requires c κs = search needs
+
+nth-u32-requires-2 : tie.Need-nth-u32-requires-2 Inv-loop μ-loop
+nth-u32-requires-2 c κs = start-inside _ _ _ _ _ _ _ _ (c .before .before .before .before .loop .inv) _ (rw (c .before .nth-u32 .ensures) at (c .follow .ensures))
 
 counted-requires : tie.Need-counted-requires Inv-loop μ-loop
 counted-requires c κs =
-    let most = missed-most _ _ _ _ _ _ _ _ (c .before .before .before .before .loop .inv) in
-    let below = c .before .before .if3 .taken in
+    let most = missed-most _ _ _ _ _ _ _ _ (c .before .before .before .before .before .loop .inv) in
+    let below = c .before .before .before .if3 .taken in
     omega arith
 
 add-name : tie.Need-add-name Inv-loop μ-loop
@@ -87,10 +90,9 @@ loop-again : tie.Need-loop-again Inv-loop μ-loop
 loop-again c =
     rw (
       c .counted .ensures,
-      c .before .follow .ensures,
-      c .before .before .nth-u32 .ensures,
+      c .before .nth-u322 .ensures,
     )
-    (counting-next _ _ _ _ _ _ _ _ (c .before .before .before .before .before .loop .inv) (c .before .before .before .if3 .taken))
+    (counting-next _ _ _ _ _ _ _ _ (c .before .before .before .before .before .before .loop .inv) _ (rw (c .before .before .before .nth-u32 .ensures) at (c .before .before .follow .ensures)) (c .before .before .before .before .if3 .taken))
 
 returns-4 : tie.Need-returns-4 Inv-loop μ-loop
 unfolding tableCheck storedStart
@@ -104,8 +106,8 @@ returns-4 c =
       none-counted _ _ _ _ _ _ _ _ (c .before .before .before .before .loop .inv) _ (c .before .before .if3 .left) (c .if4 .taken),
     )
 
-nth-u32-requires-2 : tie.Need-nth-u32-requires-2 Inv-loop μ-loop
-nth-u32-requires-2 c κs =
+nth-u32-requires-3 : tie.Need-nth-u32-requires-3 Inv-loop μ-loop
+nth-u32-requires-3 c κs =
     let inv = c .before .before .before .before .loop .inv in
     hash-inside _ _ _ _ _ _ _ _ inv _ (least-below _ _ _ _ _ _ _ _ inv (c .if4 .left))
 
@@ -119,7 +121,7 @@ returns-5 c =
       ← c .before .before .before .before .before .before .before .before .any-above .ensures,
       c .before .before .before .before .before .before .before .if2 .left,
       some-counted _ _ _ _ _ _ _ _ (c .before .before .before .before .before .loop .inv) _ (c .before .before .before .if3 .left) (c .before .if4 .left),
-      ← c .nth-u322 .ensures,
+      ← c .nth-u323 .ensures,
     )
 
 pub check-table-spec : {M : Type 1} → statement M
@@ -139,10 +141,11 @@ check-table-spec =
     loop-holds
     nth-u32-requires
     follow-requires
+    nth-u32-requires-2
     counted-requires
     add-name
     loop-less
     loop-again
     returns-4
-    nth-u32-requires-2
+    nth-u32-requires-3
     returns-5)
