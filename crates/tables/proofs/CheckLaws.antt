@@ -9,7 +9,7 @@ use native.Mathlib.Omega.{arith}
 use lib.ListN.{length, length-append}
 use lib.Dec.{ltb, eqb}
 use borrow.Author.Tests.{lt-ltb, eqb-true, eqb-false, ne-eqb}
-use Rattle.reader.specs.Outcome.{answered, refuseIf}
+use Rattle.reader.specs.Outcome.{Outcome, answered, refused, _>>=_, _>>_, refuseIf}
 use Rattle.reader.specs.Errors.{longest}
 use Rattle.reader.specs.declared.endianity.RunTimeEndian.{RunTimeEndian}
 use Rattle.reader.proofs.OutcomeLaws.{same-answer, bind-answered, then-answered, passed, cond-is}
@@ -25,7 +25,7 @@ use Rattle.tables.specs.declared.Segment.{Segment}
 use Rattle.tables.specs.declared.Count.{Count}
 use Rattle.tables.specs.Segments.{noSegment, followed, reachedBy, oneMore, countedAt}
 use Rattle.tables.proofs.SegmentLaws.{Before, before-first, before-next, followed-bucket, reached-member}
-use Rattle.tables.specs.Sanity.{MissedExactly}
+use Rattle.tables.specs.Sanity.{Told, no-hash-table, missing, toldBy, toldBefore, ToldAsBefore, MissedExactly}
 use Rattle.tables.specs.Check.{Checked, no-table, complete, incomplete, startAbove, anyAbove, isMissed, missedNames, verdict, tableCheck}
 
 -- whether a bucket from a number on has a start above N + 1
@@ -129,6 +129,37 @@ pub verdict-table : (hashOf : ℕ → ℕ) (names : List ℕ) → verdict hashOf
 unfolding verdict
 verdict-table hashOf [] e = no-table-complete (sym e)
 verdict-table hashOf (name ∷ more) e = let z : _≡_ {A = ℕ} 0 1 = cc in omega arith
+
+-- the verdict tells how many these names are, and so the check tells what document 01's does
+verdict-told : (hashOf : ℕ → ℕ) (names : List ℕ) → toldBy (verdict hashOf names) ≡ missing (length names)
+unfolding verdict
+verdict-told hashOf [] = refl
+verdict-told hashOf (name ∷ more) = refl
+
+pub told-as-before : ToldAsBefore
+unfolding tableCheck toldBefore
+told-as-before order s i = fit-or-not (fitted s i)
+  where
+    rest : Parts → Outcome Checked
+    rest p =
+        cond (eqb (i .«bucket_count») 0) (answered no-table)
+        (refuseIf (anyAbove (i .«name_count») (storedStart order s p) (i .«bucket_count»)) 1 (p .«hash_table_data») >> answered (verdict (storedHash order s p) (missedNames order s i)))
+
+    told : Parts → Outcome Told
+    told p =
+        cond (eqb (i .«bucket_count») 0) (answered no-hash-table)
+        (refuseIf (anyAbove (i .«name_count») (storedStart order s p) (i .«bucket_count»)) 1 (p .«hash_table_data») >> answered (missing (length (missedNames order s i))))
+
+    tested : (p : Parts) (t u : Bool)
+        → (cond t (answered no-table) (refuseIf u 1 (p .«hash_table_data») >> answered (verdict (storedHash order s p) (missedNames order s i))) >>= λ checked. answered (toldBy checked))
+        ≡ cond t (answered no-hash-table) (refuseIf u 1 (p .«hash_table_data») >> answered (missing (length (missedNames order s i))))
+    tested p true u = refl
+    tested p false true = refl
+    tested p false false = ap answered (verdict-told (storedHash order s p) (missedNames order s i))
+
+    fit-or-not : (o : Outcome Parts) → ((o >>= rest) >>= λ checked. answered (toldBy checked)) ≡ (o >>= told)
+    fit-or-not (answered p) = tested p (eqb (i .«bucket_count») 0) (anyAbove (i .«name_count») (storedStart order s p) (i .«bucket_count»))
+    fit-or-not (refused n v) = refl
 
 -- an index that fits its section, with a hash table whose starts are all at most N + 1
 pub record Taken (order : RunTimeEndian) (s : List ℕ) (i : NameIndex) : Type 0 where

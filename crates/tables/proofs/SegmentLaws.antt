@@ -1,5 +1,4 @@
--- Laws of segments: what the segment of a name says, and that a bucket's run reaches a name exactly if it starts in the name's segment, at
--- the name or before it.
+-- Laws of segments: what is known of the segment before a name, and which names of a segment its bucket's run reaches.
 use Prim.Native.Nat.{ℕ, _+_, _-_, _≤_, _<_}
 use mathlib.Core.Path.{_≡_, refl, sym, _∙_}
 use mathlib.Core.Bool.{Bool, true, false, cond}
@@ -16,8 +15,8 @@ use Rattle.tables.specs.declared.Segment.{Segment}
 use Rattle.tables.specs.Segments.{noSegment, followed, reachedBy}
 
 module _ (i : NameIndex) (hashOf : ℕ → ℕ) where
-  -- the segment before a name: all names from its first on belong to its bucket, the one before its first does not, and it has the name before
-  -- this one
+  -- the segment before a name: all names from its first up to this one belong to its bucket, the one before its first does not, and it has the name
+  -- before this one
   pub record Before (name : ℕ) (g : Segment) : Type 0 where
     pub begins : g .first ≤ name
     pub together : (m : ℕ) → g .first ≤ m → m < name → bucketOf i (hashOf m) ≡ g .bucket
@@ -74,7 +73,7 @@ module _ (i : NameIndex) (hashOf : ℕ → ℕ) where
       tested true e = sym (eqb-true _ _ e)
       tested false e = refl
 
-  -- so a name is in the run of its bucket exactly if that starts in the name's segment, at the name or before it
+  -- so a name is in the run of its bucket exactly if that run begins in the name's segment, at the name or before it
   pub reached-member : (name : ℕ) (g : Segment) (start : ℕ) → Before (name + 1) g → name < i .«name_count»
       → reachedBy start (g .first) name ≡ memberb name (fromStart start (runFrom i hashOf (g .bucket)))
   unfolding reachedBy fromStart memberb

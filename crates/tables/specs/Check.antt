@@ -1,4 +1,5 @@
--- The table check: document 01, "Buckets and hashes"; document 02, No. 2. `s` is the section.
+-- The table check: document 01, "Buckets and hashes"; document 02, No. 2. `s` is the section, N the number of names and B that of buckets. Names are
+-- counted from 0, as in gimli; DWARF 5 counts them from 1, and so does the start that is stored for a bucket.
 use Prim.Native.Nat.{ℕ, _+_}
 use mathlib.Core.Bool.{Bool, not, cond}
 use mathlib.Core.List.{List, [], _∷_}
@@ -18,7 +19,7 @@ use Rattle.tables.specs.declared.TableCheck.{TableCheck}
 pub data Checked : Type 0 where
   no-table : Checked
   complete : Checked
-  -- with how many names are missed, the smallest number among them, and the hash that is stored for that name
+  -- with how many names are missed, the smallest of their numbers, and the hash that is stored for the name of that number
   incomplete : Incomplete → Checked
 
 -- the outcome that the code's answer stands for
@@ -28,8 +29,8 @@ checkOutcome TableCheck.Complete = answered complete
 checkOutcome (TableCheck.Incomplete lost) = answered (incomplete lost)
 checkOutcome (TableCheck.Refused e) = refusal e
 
--- whether a bucket's start is above N + 1, and whether some bucket has such a start: which of them is the lowest makes no difference, since
--- the refusal is the same
+-- Whether a bucket's start is above N + 1, and whether some bucket has such a start. Document 01 refuses at the lowest of these; which one that is makes
+-- no difference, since the refusal is the same. A start of N + 1 is one past the last name, and no refusal in gimli.
 unfoldable pub startAbove : ℕ → (ℕ → ℕ) → ℕ → Bool
 startAbove names startOf bucket = ltb (names + 1) (startOf bucket)
 

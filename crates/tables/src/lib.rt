@@ -2,8 +2,8 @@
 // which gimli does not have; document 02, No. 2).
 //
 // A name is missed if the run of its own bucket does not reach it: a lookup by its hash then does not list it. The names are passed once,
-// in segments: a segment is a row of names that follow one another in one bucket. The run of a bucket goes no further than its first name of
-// another bucket, so it reaches a name exactly if it starts in that name's segment, at the name or before it.
+// in segments: a segment is a longest row of names that follow one another in one bucket. The run of a bucket goes no further than its first
+// name of another bucket, so it reaches a name exactly if it starts in that name's segment, at the name or before it.
 ghost use mathlib.Core.Path.{_≡_};
 ghost use Prim.Native.Nat.{_+_, _*_, _^_, _≤_, _<_};
 ghost use lib.ListN.{length};
@@ -36,7 +36,7 @@ pub enum TableCheck {
     Refused(Error),
 }
 
-// The names that precede a name without a break in one bucket: the bucket, and the first of them.
+// A segment: its bucket, and its first name.
 pub struct Segment {
     pub bucket: u32,
     pub first: u32,
@@ -89,7 +89,8 @@ fn follow(index: NameIndex, before: Segment, name: u32, hash: u32) -> Segment
     }
 }
 
-// Whether a run with this start reaches a name of its bucket, in a segment that begins with the name `first`.
+// Whether the run with this start reaches a name of its bucket, in a segment that begins with the name `first`. A start is one more than the number of
+// the name where the run begins, and 0 where there is no run.
 fn is_reached(start: u32, first: u32, name: u32) -> bool
     ensures { λ r. ⌜ r ≡ reachedBy start first name ⌝ }
 {
@@ -99,7 +100,8 @@ fn is_reached(start: u32, first: u32, name: u32) -> bool
     start - 1 <= name
 }
 
-// The missed names up to and with a name of the segment, whose bucket has this start, from those before it, whose number has room for one more.
+// The missed names after a name of the segment, from the missed names before it, whose number has room for one more; `start` is the start of the
+// segment's bucket.
 fn counted(before: Count, segment: Segment, start: u32, name: u32) -> Count
     requires { ⌜ before .missed + 1 < 2 ^ 32 ⌝ }
     ensures { λ r. ⌜ r ≡ countedAt before segment start name ⌝ }
@@ -143,8 +145,8 @@ pub fn check_table(order: RunTimeEndian, section: &[u8], index: NameIndex) -> Ta
         least: 0,
     };
     let mut name: u32 = 0;
-    // The start is read at each name, though it is the same for all names of a segment: a test whether a segment begins comes out either way at every
-    // second or third name, a processor guesses it wrong as often, and that takes longer than the read.
+    // The start is read at each name, though it is the same for all names of a segment. Read only where a segment begins, it would stand behind a jump
+    // that a processor often guesses wrong, and a wrong guess takes longer than the read. So `follow` only chooses between values: no jump.
     while name < index.name_count {
         let hash = nth_u32(order, section, hashes, name);
         segment = follow(index, segment, name, hash);
