@@ -1,14 +1,14 @@
 -- Laws of the check: the starts, one at a time; the missed names, all of them and one at a time; the verdict; and what the loop keeps from turn to
 -- turn.
 use Prim.Native.Nat.{ℕ, suc, _+_, _-_, _*_, _≤_, _<_}
-use mathlib.Core.Path.{_≡_, refl, sym, ap}
+use mathlib.Core.Path.{_≡_, refl, sym, ap, _∙_}
 use mathlib.Core.Bool.{Bool, true, false, not, cond}
 use mathlib.Core.Logic.{_⊎_, inl, inr, ⊎-elim}
 use mathlib.Core.List.{List, [], _∷_, _++_, append-nil}
 use native.Mathlib.Omega.{arith}
 use lib.ListN.{length, length-append}
 use lib.Dec.{ltb, eqb}
-use borrow.Author.Tests.{lt-ltb, eqb-true, eqb-false, ne-eqb}
+use borrow.Author.Tests.{lt-ltb, le-ltb, eqb-true, eqb-false, ne-eqb}
 use Rattle.reader.specs.Outcome.{Outcome, answered, refused, _>>=_, _>>_, refuseIf}
 use Rattle.reader.specs.Errors.{longest}
 use Rattle.reader.specs.declared.endianity.RunTimeEndian.{RunTimeEndian}
@@ -19,12 +19,13 @@ use Rattle.index.specs.Layout.{parts, Fits, fitted}
 use Rattle.index.proofs.LayoutLaws.{fitted-answered}
 use Rattle.reader.specs.Lists.{numbersFrom, filterb, memberb}
 use Rattle.hashes.specs.Table.{nthOf, storedStart, storedHash, bucketOf, namesFrom, run}
-use Rattle.reader.proofs.ListLaws.{false-true, numbers-length, filter-length, filter-step, filter-last, filter-first, member-filter, member-holds, filter-below, numbers-member, past-other}
+use Rattle.reader.proofs.ListLaws.{false-true, numbers-length, filter-length, filter-step, filter-last, filter-first, filter-none, member-filter, member-holds, filter-below, numbers-member, past-other}
 use Rattle.hashes.proofs.TableLaws.{buckets-end, hashes-end, strings-inside, bucket-below}
 use Rattle.tables.specs.declared.Segment.{Segment}
+use Rattle.tables.specs.declared.Walk.{Walk}
 use Rattle.tables.specs.declared.Count.{Count}
-use Rattle.tables.specs.Segments.{noSegment, followed, reachedBy, oneMore, countedAt}
-use Rattle.tables.proofs.SegmentLaws.{Before, before-first, before-next, followed-bucket, reached-member}
+use Rattle.tables.specs.Segments.{noSegment, followed, segmentBefore, walkedTo, firstOr, reachedBy, oneMore, countedAt}
+use Rattle.tables.proofs.SegmentLaws.{Before, before-all, before-suc, followed-bucket, reached-member}
 use Rattle.tables.specs.Sanity.{Told, no-hash-table, missing, toldBy, toldBefore, ToldAsBefore, MissedExactly}
 use Rattle.tables.specs.Check.{Checked, no-table, complete, incomplete, startAbove, anyAbove, isMissed, missedNames, verdict, tableCheck}
 
@@ -84,6 +85,14 @@ missed-last order s i name =
 missed-all : (order : RunTimeEndian) (s : List ℕ) (i : NameIndex) → missedBelow order s i (i .«name_count») ≡ missedNames order s i
 unfolding missedBelow missedNames namesFrom
 missed-all order s i = let all : i .«name_count» - 0 ≡ i .«name_count» = omega arith in rw all
+
+-- up to the first missed name
+none-below : (order : RunTimeEndian) (s : List ℕ) (i : NameIndex) (first : ℕ) (more : List ℕ) → missedNames order s i ≡ first ∷ more
+    → (first ≤ i .«name_count») × (missedBelow order s i first ≡ [])
+unfolding missedNames missedBelow namesFrom
+none-below order s i first more e =
+    let (above, below, holds, none) = filter-first (isMissed order s i) 0 (i .«name_count» - 0) first more e in
+    (omega arith, filter-none (isMissed order s i) 0 first (λ m h l. none m h (omega arith)))
 
 -- what is kept of these names: how many they are, and the first
 unfoldable pub kept : List ℕ → Count
@@ -190,32 +199,33 @@ check-answered order s i a e =
     ))
     (cond-is (eqb (i .«bucket_count») 0) _ _ (answered a) rest)
 
--- what the loop keeps: where the table stands, what is kept of the names that were missed before a name, and the segment before it
-pub record Counting (order : RunTimeEndian) (s : List ℕ) (i : NameIndex) (starts hashes : ℕ) (g : Segment) (count : Count) (name : ℕ) : Type 0 where
+-- the missed names from a number on
+unfoldable pub missedFrom : RunTimeEndian → List ℕ → NameIndex → ℕ → List ℕ
+missedFrom order s i name = filterb (isMissed order s i) (namesFrom i name)
+
+-- what both loops keep: where the table stands, and the segment before a name
+pub record Passing (order : RunTimeEndian) (s : List ℕ) (i : NameIndex) (starts hashes : ℕ) (g : Segment) (name : ℕ) : Type 0 where
   pub at-starts : starts ≡ parts i .«bucket_data»
   pub at-hashes : hashes ≡ parts i .«hash_table_data»
   pub fits : Fits s i
   pub some : 0 < i .«bucket_count»
   pub within : name ≤ i .«name_count»
-  pub counted : count ≡ kept (missedBelow order s i name)
-  pub before : Before i (storedHash order s (parts i)) name g
+  pub own : g ≡ segmentBefore i (storedHash order s (parts i)) name
 
-pub counting-first : (order : RunTimeEndian) (s : List ℕ) (i : NameIndex) (p : Parts) → answered p ≡ fitted s i → (i .«bucket_count» ≡ 0 → ⊥)
-    → Counting order s i (p .«bucket_data») (p .«hash_table_data») (noSegment i) (record { missed = 0; least = 0 }) 0
-unfolding missedBelow kept filterb numbersFrom
-counting-first order s i p given other =
+passing-to : (order : RunTimeEndian) (s : List ℕ) (i : NameIndex) (p : Parts) → answered p ≡ fitted s i → 0 < i .«bucket_count» → (name : ℕ) → name ≤ i .«name_count»
+    → Passing order s i (p .«bucket_data») (p .«hash_table_data») (segmentBefore i (storedHash order s (parts i)) name) name
+passing-to order s i p given some name within =
     let (short, fits, same) = fitted-answered s i p (sym given) in
     record {
       at-starts = ap (λ q. q .«bucket_data») same;
       at-hashes = ap (λ q. q .«hash_table_data») same;
       fits = fits;
-      some = past-other (i .«bucket_count») 0 (omega arith) other;
-      within = omega arith;
-      counted = refl;
-      before = before-first i (storedHash order s (parts i));
+      some = some;
+      within = within;
+      own = refl;
     }
 
-module _ (order : RunTimeEndian) (s : List ℕ) (i : NameIndex) (starts hashes : ℕ) (g : Segment) (count : Count) (name : ℕ) (k : Counting order s i starts hashes g count name) where
+module _ (order : RunTimeEndian) (s : List ℕ) (i : NameIndex) (starts hashes : ℕ) (g : Segment) (name : ℕ) (k : Passing order s i starts hashes g name) where
   -- where the numbers of the table stand
   pub hash-inside : (n : ℕ) → n < i .«name_count» → hashes + 4 * n + 4 ≤ length s
   hash-inside n below = omega (arith, k .at-hashes, hashes-end i (k .some), strings-inside s i (k .fits))
@@ -225,6 +235,105 @@ module _ (order : RunTimeEndian) (s : List ℕ) (i : NameIndex) (starts hashes :
       rw (is, followed-bucket i (nthOf order s hashes) name g)
       (omega (arith, k .at-starts, buckets-end i, hashes-end i (k .some), strings-inside s i (k .fits), bucket-below i (nthOf order s hashes name) (k .some)))
 
+  own-after : (after : Segment) → after ≡ followed i g name (nthOf order s hashes name) → after ≡ segmentBefore i (storedHash order s (parts i)) (name + 1)
+  unfolding storedHash
+  own-after after is = rw (before-suc i (storedHash order s (parts i)) name, ← k .own, ← k .at-hashes) is
+
+  -- one more name, with its segment
+  pub passing-next : (after : Segment) → after ≡ followed i g name (nthOf order s hashes name) → name < i .«name_count» → Passing order s i starts hashes after (name + 1)
+  passing-next after is below = record {
+    at-starts = k .at-starts;
+    at-hashes = k .at-hashes;
+    fits = k .fits;
+    some = k .some;
+    within = omega arith;
+    own = own-after after is;
+  }
+
+  -- whether the name is reached
+  pub reached-here : (after : Segment) → after ≡ followed i g name (nthOf order s hashes name) → name < i .«name_count»
+      → not (reachedBy (nthOf order s starts (after .bucket)) (after .first) name) ≡ isMissed order s i name
+  unfolding storedStart storedHash isMissed run
+  reached-here after is below =
+      rw (k .at-starts, ← of-bucket)
+      (ap not (reached-member i (storedHash order s (parts i)) name after (storedStart order s (parts i) (after .bucket)) next below))
+    where
+      hashed : after ≡ followed i g name (storedHash order s (parts i) name)
+      hashed = rw (k .at-hashes) at is
+
+      next : Before i (storedHash order s (parts i)) (name + 1) after
+      next = rw (own-after after is) (before-all i (storedHash order s (parts i)) (name + 1))
+
+      of-bucket : after .bucket ≡ bucketOf i (storedHash order s (parts i) name)
+      of-bucket = rw hashed (followed-bucket i (storedHash order s (parts i)) name g)
+
+-- what the first loop keeps besides: no name was missed before a name
+pub record Searching (order : RunTimeEndian) (s : List ℕ) (i : NameIndex) (starts hashes : ℕ) (g : Segment) (name : ℕ) : Type 0 where
+  pub passing : Passing order s i starts hashes g name
+  pub left : missedNames order s i ≡ missedFrom order s i name
+
+pub searching-first : (order : RunTimeEndian) (s : List ℕ) (i : NameIndex) (p : Parts) → answered p ≡ fitted s i → 0 < i .«bucket_count»
+    → Searching order s i (p .«bucket_data») (p .«hash_table_data») (noSegment i) 0
+unfolding segmentBefore missedNames missedFrom
+searching-first order s i p given some = record { passing = passing-to order s i p given some 0 (omega arith); left = refl }
+
+module _ (order : RunTimeEndian) (s : List ℕ) (i : NameIndex) (starts hashes : ℕ) (g : Segment) (name : ℕ) (k : Searching order s i starts hashes g name) where
+  -- the missed names from a name on: with it, where it is missed, and those after it
+  left-here : name < i .«name_count» → missedNames order s i ≡ cond (isMissed order s i name) (name ∷ missedFrom order s i (name + 1)) (missedFrom order s i (name + 1))
+  unfolding missedFrom namesFrom
+  left-here below = rw (k .left, filter-step (isMissed order s i) (i .«name_count») name, lt-ltb name (i .«name_count») below)
+
+  left-none : i .«name_count» ≤ name → missedNames order s i ≡ []
+  unfolding missedFrom namesFrom
+  left-none above = rw (k .left, filter-step (isMissed order s i) (i .«name_count») name, le-ltb name (i .«name_count») above)
+
+  -- one more name, which is reached
+  pub searching-next : (after : Segment) → after ≡ followed i g name (nthOf order s hashes name) → name < i .«name_count»
+      → not (reachedBy (nthOf order s starts (after .bucket)) (after .first) name) ≡ false → Searching order s i starts hashes after (name + 1)
+  searching-next after is below reached = record {
+    passing = passing-next order s i starts hashes g name (k .passing) after is below;
+    left = left-here below ∙ rw (← reached-here order s i starts hashes g name (k .passing) after is below, reached);
+  }
+
+  -- one that is not is the first missed name
+  pub searching-found : (after : Segment) → after ≡ followed i g name (nthOf order s hashes name) → name < i .«name_count»
+      → not (reachedBy (nthOf order s starts (after .bucket)) (after .first) name) ≡ true
+      → record { segment = g; name = name } ≡ walkedTo i (storedHash order s (parts i)) (firstOr (i .«name_count») (missedNames order s i))
+  unfolding walkedTo firstOr
+  searching-found after is below missed =
+      rw (left-here below, ← reached-here order s i starts hashes g name (k .passing) after is below, missed, k .passing .own)
+
+  -- and after the last name there is none
+  pub searching-end : i .«name_count» ≤ name → record { segment = g; name = name } ≡ walkedTo i (storedHash order s (parts i)) (firstOr (i .«name_count») (missedNames order s i))
+  unfolding walkedTo firstOr
+  searching-end above =
+      let last : name ≡ i .«name_count» = omega (arith, k .passing .within) in
+      rw (left-none above, k .passing .own, last)
+
+-- up to it no name is missed
+before-missed : (order : RunTimeEndian) (s : List ℕ) (i : NameIndex) (names : List ℕ) → missedNames order s i ≡ names
+    → (firstOr (i .«name_count») names ≤ i .«name_count») × (missedBelow order s i (firstOr (i .«name_count») names) ≡ [])
+unfolding firstOr
+before-missed order s i [] e = (omega arith, missed-all order s i ∙ e)
+before-missed order s i (first ∷ more) e = none-below order s i first more e
+
+-- what the second loop keeps besides: what is kept of the names that were missed before a name
+pub record Counting (order : RunTimeEndian) (s : List ℕ) (i : NameIndex) (starts hashes : ℕ) (g : Segment) (count : Count) (name : ℕ) : Type 0 where
+  pub passing : Passing order s i starts hashes g name
+  pub counted : count ≡ kept (missedBelow order s i name)
+
+pub counting-first : (order : RunTimeEndian) (s : List ℕ) (i : NameIndex) (p : Parts) → answered p ≡ fitted s i → 0 < i .«bucket_count» → (w : Walk)
+    → w ≡ walkedTo i (storedHash order s (parts i)) (firstOr (i .«name_count») (missedNames order s i))
+    → Counting order s i (p .«bucket_data») (p .«hash_table_data») (w .segment) (record { missed = 0; least = 0 }) (w .name)
+unfolding walkedTo kept
+counting-first order s i p given some w is =
+    let (within, nothing) = before-missed order s i (missedNames order s i) refl in
+    rw is record {
+      passing = passing-to order s i p given some (firstOr (i .«name_count») (missedNames order s i)) within;
+      counted = rw nothing;
+    }
+
+module _ (order : RunTimeEndian) (s : List ℕ) (i : NameIndex) (starts hashes : ℕ) (g : Segment) (count : Count) (name : ℕ) (k : Counting order s i starts hashes g count name) where
   -- no more names are missed than were passed
   pub missed-most : count .missed ≤ name
   unfolding missedBelow
@@ -235,29 +344,14 @@ module _ (order : RunTimeEndian) (s : List ℕ) (i : NameIndex) (starts hashes :
   -- one more name, with its segment
   pub counting-next : (after : Segment) → after ≡ followed i g name (nthOf order s hashes name) → name < i .«name_count»
       → Counting order s i starts hashes after (countedAt count after (nthOf order s starts (after .bucket)) name) (name + 1)
-  unfolding storedStart storedHash isMissed run countedAt
+  unfolding countedAt
   counting-next after is below = record {
-    at-starts = k .at-starts;
-    at-hashes = k .at-hashes;
-    fits = k .fits;
-    some = k .some;
-    within = omega arith;
-    counted = rw (k .at-starts, here, missed-last order s i name, k .counted) (one-more (memberb name (run order s i (bucketOf i (storedHash order s (parts i) name)))));
-    before = next;
+    passing = passing-next order s i starts hashes g name (k .passing) after is below;
+    counted =
+        rw (missed-last order s i name, ← reached-here order s i starts hashes g name (k .passing) after is below, k .counted)
+        (one-more (reachedBy (nthOf order s starts (after .bucket)) (after .first) name));
   }
     where
-      own : after ≡ followed i g name (storedHash order s (parts i) name)
-      own = rw (k .at-hashes) at is
-
-      next : Before i (storedHash order s (parts i)) (name + 1) after
-      next = rw own (before-next i (storedHash order s (parts i)) name g (k .before))
-
-      of-bucket : after .bucket ≡ bucketOf i (storedHash order s (parts i) name)
-      of-bucket = rw own (followed-bucket i (storedHash order s (parts i)) name g)
-
-      here : reachedBy (storedStart order s (parts i) (after .bucket)) (after .first) name ≡ memberb name (run order s i (bucketOf i (storedHash order s (parts i) name)))
-      here = rw (sym of-bucket) (reached-member i (storedHash order s (parts i)) name after (storedStart order s (parts i) (after .bucket)) next below)
-
       one-more : (t : Bool) → cond t (kept (missedBelow order s i name)) (oneMore (kept (missedBelow order s i name)) name) ≡ kept (missedBelow order s i name ++ cond (not t) (name ∷ []) [])
       one-more true = ap kept (sym (append-nil (missedBelow order s i name)))
       one-more false = sym (kept-last (missedBelow order s i name) name)
@@ -265,7 +359,7 @@ module _ (order : RunTimeEndian) (s : List ℕ) (i : NameIndex) (starts hashes :
   -- after the last name all missed ones are counted, and the verdict follows from the count
   counting-last : i .«name_count» ≤ name → count ≡ kept (missedNames order s i)
   counting-last above =
-      let last : name ≡ i .«name_count» = omega (arith, k .within) in
+      let last : name ≡ i .«name_count» = omega (arith, k .passing .within) in
       rw (k .counted, last, missed-all order s i)
 
   pub none-counted : (hashOf : ℕ → ℕ) → i .«name_count» ≤ name → count .missed ≡ 0 → verdict hashOf (missedNames order s i) ≡ complete
@@ -282,4 +376,4 @@ module _ (order : RunTimeEndian) (s : List ℕ) (i : NameIndex) (starts hashes :
     where
       of-kept : (names : List ℕ) → missedBelow order s i name ≡ names → (kept names .missed ≡ 0 → ⊥) → kept names .least < i .«name_count»
       of-kept [] e some = absurd (some refl)
-      of-kept (first ∷ more) e some = let (above, below, holds, none) = filter-first (isMissed order s i) 0 name first more e in omega (arith, k .within)
+      of-kept (first ∷ more) e some = let (above, below, holds, none) = filter-first (isMissed order s i) 0 name first more e in omega (arith, k .passing .within)

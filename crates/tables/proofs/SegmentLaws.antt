@@ -1,5 +1,5 @@
 -- Laws of segments: what is known of the segment before a name, and which names of a segment its bucket's run reaches.
-use Prim.Native.Nat.{ℕ, _+_, _-_, _≤_, _<_}
+use Prim.Native.Nat.{ℕ, zero, suc, _+_, _-_, _≤_, _<_}
 use mathlib.Core.Path.{_≡_, refl, sym, _∙_}
 use mathlib.Core.Bool.{Bool, true, false, cond}
 use mathlib.Core.List.{[]}
@@ -12,7 +12,7 @@ use Rattle.hashes.specs.Table.{bucketOf, runFrom, fromStart}
 use Rattle.reader.proofs.ListLaws.{never-true, past-other}
 use Rattle.hashes.proofs.TableLaws.{in-run, of-run}
 use Rattle.tables.specs.declared.Segment.{Segment}
-use Rattle.tables.specs.Segments.{noSegment, followed, reachedBy}
+use Rattle.tables.specs.Segments.{noSegment, followed, segmentBefore, reachedBy}
 
 module _ (i : NameIndex) (hashOf : ℕ → ℕ) where
   -- the segment before a name: all names from its first up to this one belong to its bucket, the one before its first does not, and it has the name
@@ -63,6 +63,16 @@ module _ (i : NameIndex) (hashOf : ℕ → ℕ) where
         apart = λ h k. let begins = b .last h in eqb-false _ _ e (sym k ∙ b .together (name - 1) (omega arith) (omega arith));
         last = λ h. omega arith;
       }
+
+  -- so this is known of the segment before any name, and it follows the one before
+  pub before-all : (name : ℕ) → Before name (segmentBefore i hashOf name)
+  unfolding segmentBefore
+  before-all zero = before-first
+  before-all (suc name) = let next : name + 1 ≡ suc name = omega arith in rw next at (before-next name (segmentBefore i hashOf name) (before-all name))
+
+  pub before-suc : (name : ℕ) → segmentBefore i hashOf (name + 1) ≡ followed i (segmentBefore i hashOf name) name (hashOf name)
+  unfolding segmentBefore
+  before-suc name = let next : name + 1 ≡ suc name = omega arith in rw next
 
   -- the segment of a name is of the name's bucket
   pub followed-bucket : (name : ℕ) (g : Segment) → followed i g name (hashOf name) .bucket ≡ bucketOf i (hashOf name)

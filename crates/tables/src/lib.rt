@@ -7,12 +7,15 @@
 ghost use mathlib.Core.Path.{_≡_};
 ghost use Prim.Native.Nat.{_+_, _*_, _^_, _≤_, _<_};
 ghost use lib.ListN.{length};
-ghost use Rattle.hashes.specs.Table.{nthOf};
-ghost use Rattle.tables.specs.Check.{checkOutcome, anyAbove, tableCheck};
-ghost use Rattle.tables.specs.Segments.{noSegment, followed, reachedBy, countedAt};
+ghost use Rattle.reader.specs.Outcome.{answered};
+ghost use Rattle.index.specs.Layout.{parts, fitted};
+ghost use Rattle.hashes.specs.Table.{nthOf, storedHash};
+ghost use Rattle.tables.specs.Check.{checkOutcome, anyAbove, missedNames, tableCheck};
+ghost use Rattle.tables.specs.Segments.{noSegment, followed, reachedBy, walkedTo, firstOr, countedAt};
 use hashes::bucket_of;
 use hashes::nth_u32;
 use index::NameIndex;
+use index::Parts;
 use index::PartsRead;
 use index::fit;
 use reader::Error;
@@ -40,6 +43,12 @@ pub enum TableCheck {
 pub struct Segment {
     pub bucket: u32,
     pub first: u32,
+}
+
+// How far the names are passed: the segment of the last of them, and the next name.
+pub struct Walk {
+    pub segment: Segment,
+    pub name: u32,
 }
 
 // The missed names so far: how many, and the smallest of their numbers, which is 0 as long as there is none.
@@ -100,6 +109,39 @@ fn is_reached(start: u32, first: u32, name: u32) -> bool
     start - 1 <= name
 }
 
+// The first missed name, and the segment before it; where no name is missed, all names are passed.
+//
+// Most tables are complete, so this is where the time goes. The start of a name's bucket is read at each name, though it is the same for all names of
+// a segment. Read only where a segment begins, it would stand behind a jump that a processor often guesses wrong, and a wrong guess takes longer
+// than the read. So `follow` only chooses between values, and the jumps that are left always go the same way up to the first missed name.
+fn first_missed(order: RunTimeEndian, section: &[u8], index: NameIndex, p: Parts) -> Walk
+    requires { ⌜ (answered p ≡ fitted (now section) index) × (0 < index .«bucket_count») ⌝ }
+    ensures { λ r. ⌜ r ≡ walkedTo index (storedHash order (now (section .entry)) (parts index)) (firstOr (index .«name_count») (missedNames order (now (section .entry)) index)) ⌝ }
+{
+    let starts = p.bucket_data;
+    let hashes = p.hash_table_data;
+    let mut segment = no_segment(index);
+    let mut name: u32 = 0;
+    while name < index.name_count {
+        let hash = nth_u32(order, section, hashes, name);
+        let own = follow(index, segment, name, hash);
+        let start = nth_u32(order, section, starts, own.bucket);
+        let reached = is_reached(start, own.first, name);
+        if !reached {
+            return Walk {
+                segment: segment,
+                name: name,
+            };
+        }
+        segment = own;
+        name = name + 1;
+    }
+    Walk {
+        segment: segment,
+        name: name,
+    }
+}
+
 // The missed names after a name of the segment, from the missed names before it, whose number has room for one more; `start` is the start of the
 // segment's bucket.
 fn counted(before: Count, segment: Segment, start: u32, name: u32) -> Count
@@ -139,14 +181,13 @@ pub fn check_table(order: RunTimeEndian, section: &[u8], index: NameIndex) -> Ta
     if any_above(order, section, starts, index.bucket_count, index.name_count) {
         return TableCheck::Refused(Error::UnexpectedEof(hashes));
     }
-    let mut segment = no_segment(index);
+    let first = first_missed(order, section, index, p);
+    let mut segment = first.segment;
     let mut count = Count {
         missed: 0,
         least: 0,
     };
-    let mut name: u32 = 0;
-    // The start is read at each name, though it is the same for all names of a segment. Read only where a segment begins, it would stand behind a jump
-    // that a processor often guesses wrong, and a wrong guess takes longer than the read. So `follow` only chooses between values: no jump.
+    let mut name = first.name;
     while name < index.name_count {
         let hash = nth_u32(order, section, hashes, name);
         segment = follow(index, segment, name, hash);

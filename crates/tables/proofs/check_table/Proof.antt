@@ -1,7 +1,10 @@
--- `tables::check_table` meets its contract: the starts are tested by `any_above`; then each turn counts one name by its segment (`counting-next`), and after the last name the verdict follows from the count (`none-counted`, `some-counted`).
+-- `tables::check_table` meets its contract: the starts are tested by `any_above`; up to the first missed name nothing is counted (`counting-first`); then
+-- each turn counts one name by its segment (`counting-next`), and after the last name the verdict follows from the count (`none-counted`,
+-- `some-counted`).
 -- Assumes nothing.
 use Prim.Native.Nat.{_-_}
 use native.Mathlib.Omega.{arith}
+use Rattle.reader.proofs.ListLaws.{past-other}
 use Rattle.hashes.specs.Table.{storedStart, storedHash}
 use Rattle.hashes.proofs.TableLaws.{starts-within}
 use Rattle.tables.proofs.CheckLaws.{Counting, counting-first, hash-inside, start-inside, missed-most, counting-next, none-counted, some-counted, least-below}
@@ -57,22 +60,28 @@ returns-3 c =
       c .if2 .taken,
     )
 
-no-segment-requires : tie.Need-no-segment-requires Inv-loop μ-loop
-no-segment-requires c κs = search needs
+first-missed-requires : tie.Need-first-missed-requires Inv-loop μ-loop
+first-missed-requires c κs = (
+  rw (c .before .before .before .before .before .p .given .1) at (c .before .before .before .before .before .before .before .fit .ensures),
+  past-other _ 0 (omega arith) (c .before .before .if1 .left),
+)
 
 loop-holds : tie.Need-loop-holds Inv-loop μ-loop
 loop-holds c =
-    rw (c .no-segment .ensures)
-    (counting-first _ _ _ _ (rw (c .before .before .before .before .before .before .p .given .1) at (c .before .before .before .before .before .before .before .before .fit .ensures)) (c .before .before .before .if1 .left))
+    counting-first _ _ _ _
+    (rw (c .before .before .before .before .before .before .before .p .given .1) at (c .before .before .before .before .before .before .before .before .before .fit .ensures))
+    (past-other _ 0 (omega arith) (c .before .before .before .before .if1 .left))
+    _
+    (c .before .first-missed .ensures)
 
 nth-u32-requires : tie.Need-nth-u32-requires Inv-loop μ-loop
-nth-u32-requires c κs = hash-inside _ _ _ _ _ _ _ _ (c .before .before .loop .inv) _ (c .if3 .taken)
+nth-u32-requires c κs = hash-inside _ _ _ _ _ _ _ (c .before .before .loop .inv .passing) _ (c .if3 .taken)
 
 follow-requires : tie.Need-follow-requires Inv-loop μ-loop
 follow-requires c κs = search needs
 
 nth-u32-requires-2 : tie.Need-nth-u32-requires-2 Inv-loop μ-loop
-nth-u32-requires-2 c κs = start-inside _ _ _ _ _ _ _ _ (c .before .before .before .before .loop .inv) _ (rw (c .before .nth-u32 .ensures) at (c .follow .ensures))
+nth-u32-requires-2 c κs = start-inside _ _ _ _ _ _ _ (c .before .before .before .before .loop .inv .passing) _ (rw (c .before .nth-u32 .ensures) at (c .follow .ensures))
 
 counted-requires : tie.Need-counted-requires Inv-loop μ-loop
 counted-requires c κs =
@@ -98,28 +107,28 @@ returns-4 : tie.Need-returns-4 Inv-loop μ-loop
 unfolding tableCheck storedStart
 returns-4 c =
     rw (
-      ← c .before .before .before .before .before .before .before .before .before .before .before .before .before .fit .ensures,
-      c .before .before .before .before .before .before .before .before .before .before .before .p .given .1,
-      ne-eqb _ _ (c .before .before .before .before .before .before .before .before .if1 .left),
-      ← c .before .before .before .before .before .before .before .any-above .ensures,
-      c .before .before .before .before .before .before .if2 .left,
+      ← c .before .before .before .before .before .before .before .before .before .before .before .before .before .before .fit .ensures,
+      c .before .before .before .before .before .before .before .before .before .before .before .before .p .given .1,
+      ne-eqb _ _ (c .before .before .before .before .before .before .before .before .before .if1 .left),
+      ← c .before .before .before .before .before .before .before .before .any-above .ensures,
+      c .before .before .before .before .before .before .before .if2 .left,
       none-counted _ _ _ _ _ _ _ _ (c .before .before .before .before .loop .inv) _ (c .before .before .if3 .left) (c .if4 .taken),
     )
 
 nth-u32-requires-3 : tie.Need-nth-u32-requires-3 Inv-loop μ-loop
 nth-u32-requires-3 c κs =
     let inv = c .before .before .before .before .loop .inv in
-    hash-inside _ _ _ _ _ _ _ _ inv _ (least-below _ _ _ _ _ _ _ _ inv (c .if4 .left))
+    hash-inside _ _ _ _ _ _ _ (inv .passing) _ (least-below _ _ _ _ _ _ _ _ inv (c .if4 .left))
 
 returns-5 : tie.Need-returns-5 Inv-loop μ-loop
 unfolding tableCheck storedStart storedHash
 returns-5 c =
     rw (
-      ← c .before .before .before .before .before .before .before .before .before .before .before .before .before .before .fit .ensures,
-      c .before .before .before .before .before .before .before .before .before .before .before .before .p .given .1,
-      ne-eqb _ _ (c .before .before .before .before .before .before .before .before .before .if1 .left),
-      ← c .before .before .before .before .before .before .before .before .any-above .ensures,
-      c .before .before .before .before .before .before .before .if2 .left,
+      ← c .before .before .before .before .before .before .before .before .before .before .before .before .before .before .before .fit .ensures,
+      c .before .before .before .before .before .before .before .before .before .before .before .before .before .p .given .1,
+      ne-eqb _ _ (c .before .before .before .before .before .before .before .before .before .before .if1 .left),
+      ← c .before .before .before .before .before .before .before .before .before .any-above .ensures,
+      c .before .before .before .before .before .before .before .before .if2 .left,
       some-counted _ _ _ _ _ _ _ _ (c .before .before .before .before .before .loop .inv) _ (c .before .before .before .if3 .left) (c .before .if4 .left),
       ← c .nth-u323 .ensures,
     )
@@ -137,7 +146,7 @@ check-table-spec =
     returns-2
     any-above-requires
     returns-3
-    no-segment-requires
+    first-missed-requires
     loop-holds
     nth-u32-requires
     follow-requires
