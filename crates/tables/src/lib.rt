@@ -181,6 +181,7 @@ pub fn check_table(order: RunTimeEndian, section: &[u8], index: NameIndex) -> Ta
     if any_above(order, section, starts, index.bucket_count, index.name_count) {
         return TableCheck::Refused(Error::UnexpectedEof(hashes));
     }
+    // No name before it is missed, so the count begins there, with none.
     let first = first_missed(order, section, index, p);
     let mut segment = first.segment;
     let mut count = Count {
