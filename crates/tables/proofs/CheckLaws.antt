@@ -1,5 +1,5 @@
--- Laws of the check: the starts, one at a time; the missed names, all of them and one at a time; the verdict; and what the loop keeps from turn to
--- turn.
+-- Laws of the check: the starts, one at a time; the missed names, all of them and one at a time; the verdict; that it tells what document 01's does; and
+-- what the two loops keep from turn to turn.
 use Prim.Native.Nat.{ℕ, suc, _+_, _-_, _*_, _≤_, _<_}
 use mathlib.Core.Path.{_≡_, refl, sym, ap, _∙_}
 use mathlib.Core.Bool.{Bool, true, false, not, cond}
