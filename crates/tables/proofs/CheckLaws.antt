@@ -17,7 +17,7 @@ use Rattle.index.specs.declared.layout.NameIndex.{NameIndex}
 use Rattle.index.specs.declared.layout.Parts.{Parts}
 use Rattle.index.specs.Layout.{parts, Fits, fitted}
 use Rattle.index.proofs.LayoutLaws.{fitted-answered}
-use Rattle.reader.specs.Lists.{numbersFrom, filterb, memberb}
+use Rattle.reader.specs.Lists.{numbersFrom, filterb}
 use Rattle.hashes.specs.Table.{nthOf, storedStart, storedHash, bucketOf, namesFrom, run}
 use Rattle.reader.proofs.ListLaws.{false-true, numbers-length, filter-length, filter-step, filter-last, filter-first, filter-none, member-filter, member-holds, filter-below, numbers-member, past-other}
 use Rattle.hashes.proofs.TableLaws.{buckets-end, hashes-end, strings-inside, bucket-below}
@@ -26,7 +26,7 @@ use Rattle.tables.specs.declared.Walk.{Walk}
 use Rattle.tables.specs.declared.Count.{Count}
 use Rattle.tables.specs.Segments.{noSegment, followed, segmentBefore, walkedTo, firstOr, reachedBy, oneMore, countedAt}
 use Rattle.tables.proofs.SegmentLaws.{Before, before-all, before-suc, followed-bucket, reached-member}
-use Rattle.tables.specs.Sanity.{Told, no-hash-table, missing, toldBy, toldBefore, ToldAsBefore, MissedExactly}
+use Rattle.tables.specs.Sanity.{Told, no-hash-table, toldBy, toldOf, toldBefore, ToldAsBefore, MissedExactly}
 use Rattle.tables.specs.Check.{Checked, no-table, complete, incomplete, startAbove, anyAbove, isMissed, missedNames, verdict, tableCheck}
 
 -- whether a bucket from a number on has a start above N + 1
@@ -140,10 +140,10 @@ verdict-table hashOf [] e = no-table-complete (sym e)
 verdict-table hashOf (name ∷ more) e = let z : _≡_ {A = ℕ} 0 1 = cc in omega arith
 
 -- the verdict tells how many these names are, and so the check tells what document 01's does
-verdict-told : (hashOf : ℕ → ℕ) (names : List ℕ) → toldBy (verdict hashOf names) ≡ missing (length names)
+verdict-told : (hashOf : ℕ → ℕ) (names : List ℕ) → toldBy (verdict hashOf names) ≡ toldOf (length names)
 unfolding verdict
 verdict-told hashOf [] = refl
-verdict-told hashOf (name ∷ more) = refl
+verdict-told hashOf (name ∷ more) = rw (ne-eqb (suc (length more)) 0 (λ e. omega arith))
 
 pub told-as-before : ToldAsBefore
 unfolding tableCheck toldBefore
@@ -157,11 +157,11 @@ told-as-before order s i = fit-or-not (fitted s i)
     told : Parts → Outcome Told
     told p =
         cond (eqb (i .«bucket_count») 0) (answered no-hash-table)
-        (refuseIf (anyAbove (i .«name_count») (storedStart order s p) (i .«bucket_count»)) 1 (p .«hash_table_data») >> answered (missing (length (missedNames order s i))))
+        (refuseIf (anyAbove (i .«name_count») (storedStart order s p) (i .«bucket_count»)) 1 (p .«hash_table_data») >> answered (toldOf (length (missedNames order s i))))
 
     tested : (p : Parts) (t u : Bool)
         → (cond t (answered no-table) (refuseIf u 1 (p .«hash_table_data») >> answered (verdict (storedHash order s p) (missedNames order s i))) >>= λ checked. answered (toldBy checked))
-        ≡ cond t (answered no-hash-table) (refuseIf u 1 (p .«hash_table_data») >> answered (missing (length (missedNames order s i))))
+        ≡ cond t (answered no-hash-table) (refuseIf u 1 (p .«hash_table_data») >> answered (toldOf (length (missedNames order s i))))
     tested p true u = refl
     tested p false true = refl
     tested p false false = ap answered (verdict-told (storedHash order s p) (missedNames order s i))

@@ -6,14 +6,14 @@ use mathlib.Core.Logic.{inl, inr, ⊎-elim}
 use mathlib.Core.List.{List, [], _∷_}
 use native.Mathlib.Omega.{arith}
 use lib.ListN.{length}
-use lib.Dec.{ltb, eqb}
+use lib.Dec.{ltb}
 use borrow.Author.Tests.{ltb-true, ltb-false, eq-eqb}
 use Rattle.reader.specs.Lists.{numbersFrom, memberb}
 use Rattle.reader.specs.declared.endianity.RunTimeEndian.{RunTimeEndian}
 use Rattle.reader.proofs.ListLaws.{false-true, never-true, filter-first, member-holds, no-members}
 use Rattle.index.specs.declared.layout.NameIndex.{NameIndex}
 use Rattle.index.specs.Layout.{parts}
-use Rattle.hashes.specs.Table.{storedHash, namesFrom, run, namesOfHash}
+use Rattle.hashes.specs.Table.{storedHash, namesFrom, namesOfHash}
 use Rattle.tables.specs.declared.Incomplete.{Incomplete}
 use Rattle.tables.specs.declared.TableCheck.{TableCheck}
 use Rattle.tables.specs.Check.{incomplete, checkOutcome, isMissed, missedNames, verdict, tableCheck}

@@ -32,17 +32,21 @@ MissedExactly =
     (order : RunTimeEndian) (s : List ℕ) (i : NameIndex) (name : ℕ)
     → (memberb name (missedNames order s i) ≡ true) ↔ ((name < i .«name_count») × (memberb name (run order s i (bucketOf i (storedHash order s (parts i) name))) ≡ false))
 
--- What document 01's check tells: that there is no hash table, or how many names are missed, which is complete if it is 0.
+-- What document 01's check tells: that there is no hash table, that it is complete, or how many names are missed.
 pub data Told : Type 0 where
   no-hash-table : Told
+  all-reached : Told
   missing : ℕ → Told
 
 abbrev pub toldBy : Checked → Told
 toldBy no-table = no-hash-table
-toldBy complete = missing 0
+toldBy complete = all-reached
 toldBy (incomplete lost) = missing (lost .missed)
 
--- document 01's check, in the order of its words
+-- document 01's check, in the order of its words: complete if 0 names are missed
+abbrev pub toldOf : ℕ → Told
+toldOf missed = cond (eqb missed 0) all-reached (missing missed)
+
 unfoldable pub toldBefore : RunTimeEndian → List ℕ → NameIndex → Outcome Told
 toldBefore order s i = do
   p ← fitted s i
@@ -50,7 +54,7 @@ toldBefore order s i = do
       (answered no-hash-table)
       (do
         refuseIf (anyAbove (i .«name_count») (storedStart order s p) (i .«bucket_count»)) 1 (p .«hash_table_data»)
-        answered (missing (length (missedNames order s i))))
+        answered (toldOf (length (missedNames order s i))))
 
 -- Document 02 adds the name and the hash to an incomplete answer, and changes nothing else: no table, complete, the number of missed names and every
 -- refusal are document 01's.

@@ -1,4 +1,4 @@
--- How `check_table` goes through the names, from 0 on, to find those that are missed: in segments, longest rows of names that follow one another in one
+-- How the code goes through the names, from 0 on, to find those that are missed: in segments, longest rows of names that follow one another in one
 -- bucket. What it answers is defined in Check.
 use Prim.Native.Nat.{ℕ, zero, suc, _+_, _-_}
 use mathlib.Core.Bool.{Bool, false, cond}
@@ -18,7 +18,7 @@ noSegment i = record { bucket = i .«bucket_count»; first = 0 }
 unfoldable pub followed : NameIndex → Segment → ℕ → ℕ → Segment
 followed i before name hash = cond (eqb (bucketOf i hash) (before .bucket)) before (record { bucket = bucketOf i hash; first = name })
 
--- the walk up to a name: the segment that ends right before it; `hashOf` is the hash that is stored for a name
+-- the walk up to a name: the segment of the name right before it, as far as that name; `hashOf` is the hash that is stored for a name
 unfoldable pub segmentBefore : NameIndex → (ℕ → ℕ) → ℕ → Segment
 segmentBefore i hashOf zero = noSegment i
 segmentBefore i hashOf (suc name) = followed i (segmentBefore i hashOf name) name (hashOf name)

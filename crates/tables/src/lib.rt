@@ -142,8 +142,7 @@ fn first_missed(order: RunTimeEndian, section: &[u8], index: NameIndex, p: Parts
     }
 }
 
-// The missed names after a name of the segment, from the missed names before it, whose number has room for one more; `start` is the start of the
-// segment's bucket.
+// The count after a name of the segment, from the count before it, which has room for one more; `start` is the start of the segment's bucket.
 fn counted(before: Count, segment: Segment, start: u32, name: u32) -> Count
     requires { ⌜ before .missed + 1 < 2 ^ 32 ⌝ }
     ensures { λ r. ⌜ r ≡ countedAt before segment start name ⌝ }
@@ -181,7 +180,7 @@ pub fn check_table(order: RunTimeEndian, section: &[u8], index: NameIndex) -> Ta
     if any_above(order, section, starts, index.bucket_count, index.name_count) {
         return TableCheck::Refused(Error::UnexpectedEof(hashes));
     }
-    // No name before it is missed, so the count begins there, with none.
+    // No name before the first missed one is missed, so the count begins there, with none.
     let first = first_missed(order, section, index, p);
     let mut segment = first.segment;
     let mut count = Count {
