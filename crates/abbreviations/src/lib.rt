@@ -3,6 +3,8 @@
 //
 // gimli keeps the declarations in a `Vec`; here they are read again from the bytes at each call. A table is a part of the section,
 // from a place `at` up to `end`, as everywhere in `reader`: any numbers are legal arguments.
+#![tactic(auto)]
+
 ghost use Rattle.std.specs.Prelude.{◌≡◌};
 ghost use Rattle.reader.specs.Answers.{skip_outcome};
 ghost use Rattle.abbreviations.specs.Answers.{attribute_outcome, head_outcome, declaration_outcome, table_outcome, abbreviation_outcome};
@@ -12,28 +14,28 @@ use reader::{Error, Skipped, U8Read, U16Read, U64Read, is_empty, read_u8};
 
 // A pair of name and form, and the place past it. Name and form are both 0 in the pair that closes a declaration, and both not
 // 0 in every other.
-#[derive(Drop)]
+#[derive(Clone, Copy)]
 pub struct ReadAttribute {
     pub name: u16,
     pub form: u16,
     pub next: usize,
 }
 
-#[derive(Drop)]
+#[derive(Clone, Copy)]
 pub enum AttributeRead {
     Value(ReadAttribute),
     Refused(Error),
 }
 
 // The code and the tag of a declaration, and the place past them.
-#[derive(Drop)]
+#[derive(Clone, Copy)]
 pub struct Head {
     pub code: u64,
     pub tag: u16,
     pub next: usize,
 }
 
-#[derive(Drop)]
+#[derive(Clone, Copy)]
 pub enum HeadRead {
     Value(Head),
     End,
@@ -41,7 +43,7 @@ pub enum HeadRead {
 }
 
 // A declaration: its code, its tag, the place of its pairs of name and form, and the place past them.
-#[derive(Drop)]
+#[derive(Clone, Copy)]
 pub struct NameAbbreviation {
     pub code: u64,
     pub tag: u16,
@@ -50,7 +52,7 @@ pub struct NameAbbreviation {
 }
 
 // A declaration, or the end of the table.
-#[derive(Drop)]
+#[derive(Clone, Copy)]
 pub enum DeclarationRead {
     Value(NameAbbreviation),
     End,
@@ -58,20 +60,20 @@ pub enum DeclarationRead {
 }
 
 // The whole table was read.
-#[derive(Drop)]
+#[derive(Clone, Copy)]
 pub enum TableRead {
     Whole,
     Refused(Error),
 }
 
 // What a search by code found.
-#[derive(Drop)]
+#[derive(Clone, Copy)]
 pub enum Abbreviation {
     Found(NameAbbreviation),
     NotFound,
 }
 
-#[derive(Drop)]
+#[derive(Clone, Copy)]
 pub enum AbbreviationRead {
     Value(Abbreviation),
     Refused(Error),

@@ -1,6 +1,8 @@
 // What is handed over to C, C++ and Rust: answers of one number, as structs of plain numbers by value. An answer has a status, which is 0 or
 // document 01's number of the refusal, a kind, which says what is answered, and a value, which is the answer's number or the one value that
 // the refusal carries. The kinds of units are those of a record (document 01, "The section query").
+#![tactic(auto)]
+
 ghost use Rattle.std.specs.Prelude.{◌≡◌};
 ghost use Rattle.reader.specs.Errors.{number_of, value_of};
 ghost use Rattle.index.specs.Answers.{index_outcome};
@@ -22,7 +24,7 @@ use reader::Error;
 
 // An answer: status 0, what is answered, and its number; or the refusal's number, kind 0, and its value.
 #[repr(C)]
-#[derive(Drop)]
+#[derive(Clone, Copy)]
 pub struct Answer {
     pub status: u32,
     pub kind: u32,

@@ -7,7 +7,7 @@ ghost use Rattle.attributes.specs.Meaning.{unit_number, die_offset_of, parent_of
 use reader::{Error, NameEntryOffset, UnitOffset};
 
 // The kind of an attribute's value, as of `NameAttributeValue`, or none where no attribute has the name.
-#[derive(Drop)]
+#[derive(Clone, Copy)]
 pub enum Kind {
     None,
     Unsigned,
@@ -17,7 +17,7 @@ pub enum Kind {
 
 // The first attribute of a name: its form, the kind of its value, and its number, which is 1 for a flag that is true and 0 for one
 // that is false. Plain numbers: a value with its number inside an enum is copied at each turn of the loop that keeps it.
-#[derive(Drop)]
+#[derive(Clone, Copy)]
 pub struct FirstAttribute {
     pub form: u16,
     pub kind: Kind,
@@ -25,33 +25,33 @@ pub struct FirstAttribute {
 }
 
 // The number of a unit, or none.
-#[derive(Drop)]
+#[derive(Clone, Copy)]
 pub enum UnitNumber {
     Some(u32),
     None,
 }
 
-#[derive(Drop)]
+#[derive(Clone, Copy)]
 pub enum UnitNumberRead {
     Value(UnitNumber),
     Refused(Error),
 }
 
 // The offset of a DIE in its unit, or none.
-#[derive(Drop)]
+#[derive(Clone, Copy)]
 pub enum DieOffset {
     Some(UnitOffset),
     None,
 }
 
-#[derive(Drop)]
+#[derive(Clone, Copy)]
 pub enum DieOffsetRead {
     Value(DieOffset),
     Refused(Error),
 }
 
 // The parent of an entry.
-#[derive(Drop)]
+#[derive(Clone, Copy)]
 pub enum EntryParent {
     // The parent is the entry at this offset.
     Entry(NameEntryOffset),
@@ -61,20 +61,20 @@ pub enum EntryParent {
     NotKnown,
 }
 
-#[derive(Drop)]
+#[derive(Clone, Copy)]
 pub enum ParentRead {
     Value(EntryParent),
     Refused(Error),
 }
 
 // The hash of a type, or none.
-#[derive(Drop)]
+#[derive(Clone, Copy)]
 pub enum TypeHash {
     Some(u64),
     None,
 }
 
-#[derive(Drop)]
+#[derive(Clone, Copy)]
 pub enum TypeHashRead {
     Value(TypeHash),
     Refused(Error),

@@ -11,7 +11,7 @@ use forms::{NameAttributeValue, ValueRead, read_debug_names_form_value};
 use reader::{Error, RunTimeEndian};
 
 // The first attribute of each name: compile_unit 1, type_unit 2, die_offset 3, parent 4, type_hash 5.
-#[derive(Drop)]
+#[derive(Clone, Copy)]
 pub struct Facts {
     pub compile_unit: FirstAttribute,
     pub type_unit: FirstAttribute,
@@ -21,13 +21,13 @@ pub struct Facts {
 }
 
 // The facts of an entry, and the place past its last value.
-#[derive(Drop)]
+#[derive(Clone, Copy)]
 pub struct ReadFacts {
     pub facts: Facts,
     pub next: usize,
 }
 
-#[derive(Drop)]
+#[derive(Clone, Copy)]
 pub enum FactsRead {
     Value(ReadFacts),
     Refused(Error),

@@ -1,5 +1,7 @@
 // The attributes of an entry (gimli's `NameAttribute`; document 01, "Entries and attributes"; DWARF 5, section 6.1.1.4.8): their
 // values in turn, of which the first of each of the five names is kept, and what such an attribute says.
+#![tactic(auto)]
+
 pub mod attribute; // what is kept of an attribute, and what it says
 pub mod facts; // the first attribute of each name, kept in one pass
 pub mod units; // the unit that an attribute names

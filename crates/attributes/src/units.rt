@@ -10,26 +10,26 @@ use names::{NameTypeUnit, TypeUnitRead, UnitRead};
 use reader::{DebugInfoOffset, Error, RunTimeEndian};
 
 // The compile unit that an entry names, or none.
-#[derive(Drop)]
+#[derive(Clone, Copy)]
 pub enum EntryUnit {
     Some(DebugInfoOffset),
     None,
 }
 
-#[derive(Drop)]
+#[derive(Clone, Copy)]
 pub enum EntryUnitRead {
     Value(EntryUnit),
     Refused(Error),
 }
 
 // The type unit that an entry names, or none.
-#[derive(Drop)]
+#[derive(Clone, Copy)]
 pub enum EntryTypeUnit {
     Some(NameTypeUnit),
     None,
 }
 
-#[derive(Drop)]
+#[derive(Clone, Copy)]
 pub enum EntryTypeUnitRead {
     Value(EntryTypeUnit),
     Refused(Error),

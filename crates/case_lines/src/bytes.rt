@@ -5,7 +5,7 @@ use crate::{Numbers, between, find, letter};
 pub type Bytes = [u8; 512];
 
 // How far the bytes have been read: how many digits, two for each byte; and whether what follows is text.
-#[derive(Drop)]
+#[derive(Clone, Copy)]
 struct Reading {
     digits: usize,
     quoted: bool,

@@ -10,6 +10,8 @@
 // of hexadecimal digits, text between two quotes, and names of sections, in any order. Parts at the end of a line may be missing.
 //
 // A section has at most 511 bytes, a part 24 numbers, and a line 12 changes: what is more is not read.
+#![tactic(auto)]
+
 mod bytes; // the bytes of a part
 mod numbers; // the numbers of a part
 

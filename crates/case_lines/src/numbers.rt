@@ -2,7 +2,7 @@
 use std::num::wrapping_add_u64;
 
 // The numbers of some text in their order, at most 24: how many have ended, and whether digits of one more stand behind them.
-#[derive(Drop)]
+#[derive(Clone, Copy)]
 pub struct Numbers {
     pub values: [u64; 24],
     pub count: usize,

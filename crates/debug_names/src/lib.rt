@@ -3,6 +3,8 @@
 //
 // Each function is thin: what a caller's numbers stand for, the call of the crate below, and its answer in a struct; its contract says what it
 // hands over by the same definitions as that call. None requires anything.
+#![tactic(auto)]
+
 pub mod opening; // headers, and the indexes that they describe
 pub mod counting; // how many units, buckets and names
 pub mod units; // compile units and type units

@@ -9,21 +9,21 @@ use index::{NameIndex, Parts, PartsRead, fit};
 use reader::{Error, NameEntryOffset, RunTimeEndian, Skipped, U64Read, skip};
 
 // An entry: its handle, its abbreviation code and its tag.
-#[derive(Drop)]
+#[derive(Clone, Copy)]
 pub struct NameEntry {
     pub offset: NameEntryOffset,
     pub abbrev_code: u64,
     pub tag: u16,
 }
 
-#[derive(Drop)]
+#[derive(Clone, Copy)]
 pub enum EntryRead {
     Value(NameEntry),
     Refused(Error),
 }
 
 // All that one pass over an entry tells: its abbreviation code, its tag, the first attribute of each name, and the place past it.
-#[derive(Drop)]
+#[derive(Clone, Copy)]
 pub struct WholeEntry {
     pub abbrev_code: u64,
     pub tag: u16,
@@ -31,14 +31,14 @@ pub struct WholeEntry {
     pub next: usize,
 }
 
-#[derive(Drop)]
+#[derive(Clone, Copy)]
 pub enum WholeRead {
     Value(WholeEntry),
     Refused(Error),
 }
 
 // What stands at a place of the pool: an entry, or the code 0 that ends a series.
-#[derive(Drop)]
+#[derive(Clone, Copy)]
 pub enum PoolRead {
     Entry(WholeEntry),
     End,

@@ -2,6 +2,8 @@
 // 6.1.1.4.8): single entries, the series of a name, and the five facts of an entry.
 //
 // gimli's methods are functions here, given the section and the index: 13 and 14 are tested first, in this order.
+#![tactic(auto)]
+
 pub mod entry; // an entry, at a place of the pool or by its handle
 pub mod series; // the entries of a name, one after another
 pub mod facts; // the five facts of an entry

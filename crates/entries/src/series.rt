@@ -11,19 +11,19 @@ use reader::{
 };
 
 // A cursor over the entries of a name: the place of the next one. It fits an index if that lies in the pool or at its end.
-#[derive(Drop)]
+#[derive(Clone, Copy)]
 pub struct NameEntryIter {
     pub at: usize,
 }
 
-#[derive(Drop)]
+#[derive(Clone, Copy)]
 pub enum EntriesRead {
     Value(NameEntryIter),
     Refused(Error),
 }
 
 // What a step answers, with the cursor after it: the end, an entry, or a refusal.
-#[derive(Drop)]
+#[derive(Clone, Copy)]
 pub enum NameEntryStep {
     End(NameEntryIter),
     Entry(NameEntry, NameEntryIter),
@@ -31,7 +31,7 @@ pub enum NameEntryStep {
 }
 
 // The same with all that one pass over the entry tells: its handle, and the entry read whole.
-#[derive(Drop)]
+#[derive(Clone, Copy)]
 pub enum WholeEntryStep {
     End(NameEntryIter),
     Entry(NameEntryOffset, WholeEntry, NameEntryIter),

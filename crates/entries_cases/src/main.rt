@@ -1,5 +1,7 @@
 // Document 01's cases for entries, series and the facts of an entry, a named case on each line. The file stdout beside src/ has what
 // document 01 says, worked out by hand.
+#![tactic(auto)]
+
 mod calls; // the calls on an index, by name
 mod opened; // indexes that were opened
 mod made; // indexes and cursors that are made of numbers

@@ -1,5 +1,7 @@
 // Entries and their facts, as they are handed over to C, C++ and Rust. The five facts are answers of their own: each may be refused while the
 // entry is not (document 01, "Entries and attributes").
+#![tactic(auto)]
+
 ghost use Rattle.std.specs.Prelude.{◌≡◌};
 ghost use Rattle.reader.specs.Errors.{number_of, value_of};
 ghost use Rattle.attributes.specs.Answers.{entry_unit_outcome, entry_type_unit_outcome, die_offset_outcome, parent_outcome, type_hash_outcome};
@@ -19,7 +21,7 @@ use reader::{Error, NameEntryOffset, RunTimeEndian};
 
 // The five facts of an entry, each with kind 0 where no attribute states it.
 #[repr(C)]
-#[derive(Drop)]
+#[derive(Clone, Copy)]
 pub struct EntryFacts {
     pub compile_unit: Answer,
     pub type_unit: Answer,
@@ -30,7 +32,7 @@ pub struct EntryFacts {
 
 // An entry: kind 0 is the end of a series; 1 is an entry, whose handle is `value`. `next` is the cursor after the step.
 #[repr(C)]
-#[derive(Drop)]
+#[derive(Clone, Copy)]
 pub struct EntryAnswer {
     pub status: u32,
     pub kind: u32,

@@ -1,5 +1,7 @@
 // The value of an attribute of an entry (gimli's `NameAttributeValue` and `read_debug_names_form_value`; document 01, "Entries and
 // attributes"; DWARF 5, section 7.5): twelve forms, each read at a place of a part as the readings of `reader` are.
+#![tactic(auto)]
+
 ghost use Rattle.std.specs.Prelude.{◌≡◌};
 ghost use Rattle.reader.specs.Answers.{u8_outcome, u16_outcome, u32_outcome, u64_outcome};
 ghost use Rattle.forms.specs.Answers.{value_outcome};
@@ -11,7 +13,7 @@ use reader::{
 };
 
 // The value of an attribute.
-#[derive(Drop)]
+#[derive(Clone, Copy)]
 pub enum NameAttributeValue {
     // An unsigned number: forms data1, data2, data4, data8 and udata.
     Unsigned(u64),
@@ -22,13 +24,13 @@ pub enum NameAttributeValue {
 }
 
 // A value, and the place past it.
-#[derive(Drop)]
+#[derive(Clone, Copy)]
 pub struct ReadValue {
     pub value: NameAttributeValue,
     pub next: usize,
 }
 
-#[derive(Drop)]
+#[derive(Clone, Copy)]
 pub enum ValueRead {
     Value(ReadValue),
     Refused(Error),

@@ -4,6 +4,8 @@
 //
 // A case, all numbers little-endian: the call (1 byte), the byte order (1 byte, 0 little), the place, the part's end, an argument
 // and the section's length (2 bytes each), and the section's bytes.
+#![tactic(auto)]
+
 use leb128::read;
 use libc::STDIN_FILENO;
 use reader::{
@@ -13,7 +15,7 @@ use reader::{
 use strings::DebugStr;
 
 // A call, and where its section stands in the input.
-#[derive(Drop)]
+#[derive(Clone, Copy)]
 struct Call {
     op: u8,
     order: RunTimeEndian,
@@ -24,7 +26,7 @@ struct Call {
 }
 
 // A case, with the section's length.
-#[derive(Drop)]
+#[derive(Clone, Copy)]
 enum Case {
     Of(Call, usize),
     Missing,

@@ -3,6 +3,8 @@
 //
 // A byte order is a number, 0 for little and any other for big. An index is a handle of numbers: whatever they are, it stands for an index,
 // and one whose format is neither 4 nor 8 stands for an index that fits no section.
+#![tactic(auto)]
+
 ghost use Rattle.std.specs.Prelude.{◌≡◌};
 ghost use Rattle.handles.specs.Handles.{order_of, with_format, misfit, index_from, handle_of, header_for, iter_from, cursor_from};
 
@@ -14,7 +16,7 @@ use reader::{DebugNamesOffset, Format, NameTableIndex, Part, RunTimeEndian};
 // An index, as a handle: where its parts begin and its pool ends, its counts, and the bytes of its words (4 or 8). The fields are in groups of
 // 16 bytes, as callers copy them: a load that takes of two such copies waits for both.
 #[repr(C)]
-#[derive(Drop)]
+#[derive(Clone, Copy)]
 pub struct IndexHandle {
     pub begin: usize,
     pub end: usize,
@@ -29,7 +31,7 @@ pub struct IndexHandle {
 
 // A hash cursor: the hash, whether it holds a bucket cursor (0 is no), the bucket, and the name to examine next.
 #[repr(C)]
-#[derive(Drop)]
+#[derive(Clone, Copy)]
 pub struct HashCursor {
     pub hash: u32,
     pub has_bucket: u32,

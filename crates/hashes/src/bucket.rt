@@ -9,42 +9,42 @@ use reader::{Error, NameTableIndex, RunTimeEndian, Skipped, U32Read, read_u32, s
 
 // A cursor over the names of a bucket: the number of the name to examine next, and the bucket. It fits an index if the bucket is below
 // the number of buckets; any name number fits.
-#[derive(Drop)]
+#[derive(Clone, Copy)]
 pub struct NameBucketIter {
     pub name_table_index: NameTableIndex,
     pub bucket_index: u32,
 }
 
 // A cursor, or none for a bucket that has no names.
-#[derive(Drop)]
+#[derive(Clone, Copy)]
 pub enum BucketIter {
     None,
     Some(NameBucketIter),
 }
 
 // The number of a bucket's first name, or none.
-#[derive(Drop)]
+#[derive(Clone, Copy)]
 pub enum FirstName {
     None,
     Some(u32),
     Refused(Error),
 }
 
-#[derive(Drop)]
+#[derive(Clone, Copy)]
 pub enum BucketRead {
     Value(BucketIter),
     Refused(Error),
 }
 
 // A name of a bucket, and the hash that is stored for it.
-#[derive(Drop)]
+#[derive(Clone, Copy)]
 pub struct BucketName {
     pub name: NameTableIndex,
     pub hash: u32,
 }
 
 // What a step answers, with the cursor after it: the end, a name, or a refusal.
-#[derive(Drop)]
+#[derive(Clone, Copy)]
 pub enum NameBucketStep {
     End(NameBucketIter),
     Name(BucketName, NameBucketIter),

@@ -10,20 +10,20 @@ use reader::{Error, NameTableIndex, RunTimeEndian};
 
 // A cursor over the names that store a hash: the cursor over its bucket, if that has names, and the hash. It fits an index if it holds no
 // bucket cursor or one that fits.
-#[derive(Drop)]
+#[derive(Clone, Copy)]
 pub struct NameHashIter {
     pub bucket_iter: BucketIter,
     pub hash: u32,
 }
 
-#[derive(Drop)]
+#[derive(Clone, Copy)]
 pub enum HashRead {
     Value(NameHashIter),
     Refused(Error),
 }
 
 // What a step answers, with the cursor after it: the end, a name, or a refusal.
-#[derive(Drop)]
+#[derive(Clone, Copy)]
 pub enum NameHashStep {
     End(NameHashIter),
     Name(NameTableIndex, NameHashIter),
@@ -31,7 +31,7 @@ pub enum NameHashStep {
 }
 
 // Where the search for the next name ended: at a name or at the run's end, each with the number of the name to examine after it.
-#[derive(Drop)]
+#[derive(Clone, Copy)]
 pub enum Found {
     Name(u32, u32),
     End(u32),

@@ -2,6 +2,8 @@
 // and hashes"; DWARF 5, section 6.1.1.4.5): the names of a bucket and the names that store a hash, by steps.
 //
 // gimli's methods of an index are functions here, given the section and the index: 13 and 14 are tested first, in this order.
+#![tactic(auto)]
+
 pub mod bucket; // the names of a bucket, one after another
 pub mod hash; // the names that store a hash
 

@@ -11,14 +11,14 @@ use reader::{NameTableIndex, RunTimeEndian};
 use tables::{TableCheck, check_table};
 
 // A cursor of either kind.
-#[derive(Drop)]
+#[derive(Clone, Copy)]
 enum Cursor {
     Bucket(NameBucketIter),
     Hash(NameHashIter),
 }
 
 // The cursor after a step, and whether the step said end or refused.
-#[derive(Drop)]
+#[derive(Clone, Copy)]
 struct After {
     cursor: Cursor,
     ended: bool,

@@ -1,7 +1,7 @@
 // The numbers in a line of text that describes a case. Semicolons part the line; part 0 is what stands before the first.
 
 // The numbers of some text in their order, at most 24: how many have ended, and whether digits of one more stand behind them.
-#[derive(Drop)]
+#[derive(Clone, Copy)]
 pub struct Numbers {
     pub values: [u64; 24],
     pub count: u8,

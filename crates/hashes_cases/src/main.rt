@@ -1,6 +1,8 @@
 // Document 01's cases for buckets, hashes and the table check ("Buckets and hashes", and refusal 14 of "Why a call says no"), and those of
 // document 02, No. 2, for the names that a table loses: for each case a line that says what it is, and a line for each lookup with its steps
 // and for the check. The file stdout beside src/ has what the documents say, worked out from their words and the numbers below.
+#![tactic(auto)]
+
 mod calls; // lookups, steps and the check, a line for each
 mod cases; // a case and its answers
 mod line; // the numbers in a line of text

@@ -11,7 +11,7 @@ use reader::{
 
 // The part of an index, cut out by its length: where its header begins, its length and format, and the part from the place past
 // the length up to the place where the index ends.
-#[derive(Drop)]
+#[derive(Clone, Copy)]
 pub struct HeaderCut {
     pub offset: DebugNamesOffset,
     pub length: usize,
@@ -19,14 +19,14 @@ pub struct HeaderCut {
     pub body: Part,
 }
 
-#[derive(Drop)]
+#[derive(Clone, Copy)]
 pub enum HeaderCutRead {
     Value(HeaderCut),
     Refused(Error),
 }
 
 // The counts and sizes of a header, and the place past them.
-#[derive(Drop)]
+#[derive(Clone, Copy)]
 pub struct Counts {
     pub compile_unit_count: u32,
     pub local_type_unit_count: u32,
@@ -38,41 +38,41 @@ pub struct Counts {
     pub next: usize,
 }
 
-#[derive(Drop)]
+#[derive(Clone, Copy)]
 pub enum CountsRead {
     Value(Counts),
     Refused(Error),
 }
 
 // Where an augmentation string stands: its first byte, and its length without the padding.
-#[derive(Drop)]
+#[derive(Clone, Copy)]
 pub struct AugmentationString {
     pub place: usize,
     pub len: usize,
 }
 
 // The augmentation of a header; none where its size is 0.
-#[derive(Drop)]
+#[derive(Clone, Copy)]
 pub enum Augmentation {
     None,
     Some(AugmentationString),
 }
 
 // An augmentation, and the place past its padding.
-#[derive(Drop)]
+#[derive(Clone, Copy)]
 pub struct ReadAugmentation {
     pub augmentation: Augmentation,
     pub next: usize,
 }
 
-#[derive(Drop)]
+#[derive(Clone, Copy)]
 pub enum AugmentationRead {
     Value(ReadAugmentation),
     Refused(Error),
 }
 
 // The header of an index.
-#[derive(Drop)]
+#[derive(Clone, Copy)]
 pub struct NameIndexHeader {
     // The section offset of the header.
     pub offset: DebugNamesOffset,
@@ -94,7 +94,7 @@ pub struct NameIndexHeader {
     pub content: Part,
 }
 
-#[derive(Drop)]
+#[derive(Clone, Copy)]
 pub enum HeaderRead {
     Value(NameIndexHeader),
     Refused(Error),

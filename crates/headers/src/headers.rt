@@ -7,17 +7,17 @@ use crate::header::{HeaderRead, NameIndexHeader, parse};
 use reader::{Error, RunTimeEndian, too_long};
 
 // The lent .debug_names section. gimli's struct holds the section's bytes; here they are lent to each call.
-#[derive(Drop)]
+#[derive(Clone, Copy)]
 pub struct DebugNames;
 
 // A cursor over the headers of a section: the place of the next one. It fits if that is at most the section's length.
-#[derive(Drop)]
+#[derive(Clone, Copy)]
 pub struct NameIndexHeaderIter {
     pub at: usize,
 }
 
 // What a step answers, with the cursor after it: none at the section's end, a header, or a refusal.
-#[derive(Drop)]
+#[derive(Clone, Copy)]
 pub enum HeaderStep {
     End(NameIndexHeaderIter),
     Header(NameIndexHeader, NameIndexHeaderIter),

@@ -10,7 +10,7 @@ ghost use Rattle.index.specs.Layout.{no_index, word_bytes, hash_bytes, parts, fi
 use reader::{Error, Format, too_long};
 
 // An index of the section.
-#[derive(Drop)]
+#[derive(Clone, Copy)]
 pub struct NameIndex {
     pub format: Format,
     pub compile_unit_count: u32,
@@ -42,7 +42,7 @@ pub fn no_index() -> NameIndex
 }
 
 // The place where each part of an index begins. Each ends where the next begins, and the pool ends at `end`.
-#[derive(Drop)]
+#[derive(Clone, Copy)]
 pub struct Parts {
     pub compile_unit_list: usize,
     pub local_type_unit_list: usize,
@@ -56,7 +56,7 @@ pub struct Parts {
     pub end: usize,
 }
 
-#[derive(Drop)]
+#[derive(Clone, Copy)]
 pub enum PartsRead {
     Value(Parts),
     Refused(Error),

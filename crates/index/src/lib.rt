@@ -4,6 +4,8 @@
 // gimli's readers hold the bytes; here headers and indexes are numbers by value, and the section is lent to each call. So a caller
 // may bring any numbers: each call first tests that the section is not too long (refusal 13), then that what it was given fits the
 // section (refusal 14), and then reads as gimli does.
+#![tactic(auto)]
+
 pub mod layout; // an index: where each of its parts lies
 pub mod open; // an index from a header
 

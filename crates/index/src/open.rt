@@ -8,7 +8,7 @@ use abbreviations::TableRead;
 use headers::NameIndexHeader;
 use reader::{Error, too_long};
 
-#[derive(Drop)]
+#[derive(Clone, Copy)]
 pub enum IndexRead {
     Value(NameIndex),
     Refused(Error),

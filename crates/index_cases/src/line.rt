@@ -3,14 +3,14 @@ use crate::sections::{CASE_A, NARROW, WIDE};
 use std::num::wrapping_add_u64;
 
 // The bytes of a section, at most 128, and how many digits they have, two for each.
-#[derive(Drop)]
+#[derive(Clone, Copy)]
 pub struct Bytes {
     pub values: [u8; 128],
     pub digits: usize,
 }
 
 // A number in decimal digits.
-#[derive(Drop)]
+#[derive(Clone, Copy)]
 pub enum Number {
     None,
     Some(u64),

@@ -1,5 +1,7 @@
 // Document 01's cases for headers, units, names and abbreviations, and document 02's for padding. The file stdin beside src/ has the cases, one
 // on each line, and the file stdout what the documents say, worked out by hand.
+#![tactic(auto)]
+
 mod calls; // the calls on an index, by name
 mod cases; // cases that a line of text describes
 mod cuts; // case A cut short

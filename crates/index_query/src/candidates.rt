@@ -9,14 +9,14 @@ use index::{NameIndex, PartsRead, fit};
 use reader::{Error, NameTableIndex, RunTimeEndian};
 
 // The number of the name from which on the candidates are looked for.
-#[derive(Drop)]
+#[derive(Clone, Copy)]
 pub enum FirstCandidate {
     From(u32),
     Refused(Error),
 }
 
 // The next candidate, with the number after it.
-#[derive(Drop)]
+#[derive(Clone, Copy)]
 pub enum Candidate {
     Name(NameTableIndex, u32),
     End,

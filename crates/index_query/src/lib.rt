@@ -1,5 +1,7 @@
 // The section query in one index (document 01, "The section query"): from an index to its records, one after another. The walk over the
 // indexes of a section stands above it.
+#![tactic(auto)]
+
 pub mod candidates; // the names to look at
 pub mod matching; // those of them whose string is the name
 pub mod series; // the records of a series, and of the index

@@ -11,7 +11,7 @@ use reader::{Error, NameTableIndex, RunTimeEndian};
 use strings::StrRead;
 
 // Whether a name's string is the one that is asked for.
-#[derive(Drop)]
+#[derive(Clone, Copy)]
 pub enum Match {
     Yes,
     No,
@@ -19,7 +19,7 @@ pub enum Match {
 }
 
 // The next name that matches, with the number from which on the candidates after it are looked for.
-#[derive(Drop)]
+#[derive(Clone, Copy)]
 pub enum MatchStep {
     Name(NameTableIndex, u32),
     End,

@@ -13,7 +13,7 @@ use records::{Record, RecordRead, entry_record};
 
 // A cursor over the records of an index: the name whose series is being read, the place of its next entry, and the number from which on the
 // candidates after it are looked for. Any cursor is legal.
-#[derive(Drop)]
+#[derive(Clone, Copy)]
 pub struct IndexIter {
     pub name: NameTableIndex,
     pub at: usize,
@@ -21,14 +21,14 @@ pub struct IndexIter {
 }
 
 // The cursor before the first record.
-#[derive(Drop)]
+#[derive(Clone, Copy)]
 pub enum StartRead {
     Value(IndexIter),
     Refused(Error),
 }
 
 // What a step answers: a record, with the cursor after it; the end; or a refusal.
-#[derive(Drop)]
+#[derive(Clone, Copy)]
 pub enum IndexStep {
     Record(Record, IndexIter),
     End,
@@ -36,7 +36,7 @@ pub enum IndexStep {
 }
 
 // What stands at a place of the pool: the record of the entry there, with the place past it, or the end of the series.
-#[derive(Drop)]
+#[derive(Clone, Copy)]
 pub enum PoolRecord {
     Record(Record, usize),
     End,

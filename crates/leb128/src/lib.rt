@@ -1,5 +1,7 @@
 // LEB128 numbers of 64 and of 16 bits (gimli's leb128.rs; document 01, "Bytes and numbers"; document 02, No. 8; DWARF 5, section 7.6), each
 // read at a place of a part as the readings of `reader` are. A number may be padded to any length; a set bit beyond its width is 7.
+#![tactic(auto)]
+
 ghost use Rattle.std.specs.Prelude.{◌≡◌, ℕ, ◌+◌, ◌^◌, ◌<◌};
 ghost use Rattle.reader.specs.Answers.{skip_outcome, u8_outcome, u16_outcome, u64_outcome};
 ghost use Rattle.leb128.specs.Leb128.{leb128, unsigned_limit, u16_limit, past_padding};

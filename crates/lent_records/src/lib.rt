@@ -1,5 +1,7 @@
 // The section query for test programs: records that no query writes are lent to it, and are handed back with its answer, so that a case
 // sees which of them were written.
+#![tactic(auto)]
+
 ghost use Rattle.std.specs.Prelude.{◌≤◌};
 
 use query::query;
@@ -8,7 +10,7 @@ use reader::{NameTableIndex, RunTimeEndian, UnitOffset};
 use records::Record;
 
 // What a query answers, and four records as it leaves them.
-#[derive(Drop)]
+#[derive(Clone, Copy)]
 pub struct Got {
     pub answer: QueryRead,
     pub recs: [Record; 4],

@@ -1,5 +1,7 @@
 // The text of a listing's lines (document 01, "Bytes to try"): which bytes stand in the line of an index, of a name and of a refusal, and in the last
 // line. specs/Text.antt says what they are; `io::decimal` gives the digits.
+#![tactic(auto)]
+
 ghost use Rattle.std.specs.Prelude.{◌+◌, ◌≡◌, ◌++◌, [], length};
 ghost use Rattle.line_text.specs.Text.{decimal, hash_field, index_text, name_text, line_text, refused_text};
 ghost use Rattle.line_text.specs.Room.{shown, Room, Behind};
@@ -7,7 +9,7 @@ ghost use Rattle.line_text.specs.Room.{shown, Room, Behind};
 use listing::{IndexLine, Line, Missed, NameHash, NameLine};
 
 // A text: the first len of the bytes. No line is longer than 89 bytes.
-#[derive(Drop)]
+#[derive(Clone, Copy)]
 pub struct LineText {
     pub bytes: [u8; 128],
     pub len: usize,

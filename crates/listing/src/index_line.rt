@@ -9,19 +9,19 @@ use reader::{DebugNamesOffset, Error, RunTimeEndian};
 use tables::{TableCheck, check_table};
 
 // How many names a hash table misses; none where there is no hash table.
-#[derive(Drop)]
+#[derive(Clone, Copy)]
 pub enum Missed {
     None,
     Some(u32),
 }
 
-#[derive(Drop)]
+#[derive(Clone, Copy)]
 pub enum MissedRead {
     Value(Missed),
     Refused(Error),
 }
 
-#[derive(Drop)]
+#[derive(Clone, Copy)]
 pub struct IndexLine {
     pub place: DebugNamesOffset,
     pub name_count: u32,
@@ -30,13 +30,13 @@ pub struct IndexLine {
 }
 
 // An index that was opened, and its line.
-#[derive(Drop)]
+#[derive(Clone, Copy)]
 pub struct Opened {
     pub index: NameIndex,
     pub line: IndexLine,
 }
 
-#[derive(Drop)]
+#[derive(Clone, Copy)]
 pub enum OpenedRead {
     Value(Opened),
     Refused(Error),

@@ -2,6 +2,8 @@
 // of its names, and last how many indexes were listed. A refusal stands in the place of its line, and ends the listing.
 //
 // What is listed is decided here, a line at a step; a program only prints the lines.
+#![tactic(auto)]
+
 pub mod name; // the line of a name
 pub mod index_line; // the line of an index
 pub mod lines; // the lines of a section, one after another

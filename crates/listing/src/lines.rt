@@ -10,7 +10,7 @@ use index::{NameIndex, no_index};
 use reader::{Error, NameTableIndex, RunTimeEndian};
 
 // A line: an index, a name, or, last, how many indexes were listed.
-#[derive(Drop)]
+#[derive(Clone, Copy)]
 pub enum Line {
     Index(IndexLine),
     Name(NameLine),
@@ -20,7 +20,7 @@ pub enum Line {
 // A cursor over the lines of a section: the place of the next header, how many indexes were listed, the index whose names are being listed
 // and the number of the next one, and whether the listing has ended. It fits if no more indexes were listed than there are bytes before
 // its place.
-#[derive(Drop)]
+#[derive(Clone, Copy)]
 pub struct ListingIter {
     pub at: usize,
     pub listed: usize,
@@ -30,7 +30,7 @@ pub struct ListingIter {
 }
 
 // What a step answers, with the cursor after it: no more lines, a line, or a refusal in the place of one.
-#[derive(Drop)]
+#[derive(Clone, Copy)]
 pub enum ListingStep {
     End(ListingIter),
     Line(Line, ListingIter),

@@ -12,25 +12,25 @@ use reader::{
 };
 
 // The hash that is stored for a name; none where the index has no hash table.
-#[derive(Drop)]
+#[derive(Clone, Copy)]
 pub enum NameHash {
     None,
     Some(u32),
 }
 
-#[derive(Drop)]
+#[derive(Clone, Copy)]
 pub enum NameHashRead {
     Value(NameHash),
     Refused(Error),
 }
 
-#[derive(Drop)]
+#[derive(Clone, Copy)]
 pub enum EntryCountRead {
     Value(usize),
     Refused(Error),
 }
 
-#[derive(Drop)]
+#[derive(Clone, Copy)]
 pub struct NameLine {
     pub name: NameTableIndex,
     pub hash: NameHash,
@@ -38,7 +38,7 @@ pub struct NameLine {
     pub entries: usize,
 }
 
-#[derive(Drop)]
+#[derive(Clone, Copy)]
 pub enum NameLineRead {
     Value(NameLine),
     Refused(Error),

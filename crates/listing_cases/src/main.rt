@@ -1,6 +1,8 @@
 // Listings of case A with one thing changed, or two (document 01, "Bytes to try"): what each line can be refused by, what stands in its
 // place, and which refusal comes first. The file stdin beside src/ is a section of 65,536 bytes: case A with its length 65,532, and its pool
 // filled up with zeros. The file stdout is worked out by hand from document 01.
+#![tactic(auto)]
+
 use libc::STDOUT_FILENO;
 
 // Case A, as document 01 has it: header, unit, starts, hashes, strings, entry offsets, abbreviations and pool.

@@ -1,5 +1,7 @@
 // The listing of a section as text (document 01, "Bytes to try"), a line at a step: a program that writes what the steps give, up to the first after
 // which no line may follow, writes the text of the section's listing.
+#![tactic(auto)]
+
 ghost use Rattle.std.specs.Prelude.{◌≡◌};
 ghost use Rattle.line_text.specs.Room.{Room};
 ghost use Rattle.listing_text.specs.Written.{written_of, text_step};
@@ -9,7 +11,7 @@ use listing::{ListingIter, ListingStep};
 use reader::RunTimeEndian;
 
 // What a step writes, the cursor after it, and whether a line may follow.
-#[derive(Drop)]
+#[derive(Clone, Copy)]
 pub struct TextStep {
     pub text: LineText,
     pub cursor: ListingIter,

@@ -1,5 +1,7 @@
 // The listing program on a section that is too long for it: the file stdin beside src/ has 65,537 bytes, all 0, and document 01 asks for the
 // one line "refused 13".
+#![tactic(auto)]
+
 fn main() {
     printing::list_input();
 }

@@ -7,13 +7,13 @@ ghost use Rattle.names.specs.Counts.{compile_unit_count_of, local_type_unit_coun
 use index::{NameIndex, PartsRead, fit};
 use reader::Error;
 
-#[derive(Drop)]
+#[derive(Clone, Copy)]
 pub enum CountRead {
     Value(u32),
     Refused(Error),
 }
 
-#[derive(Drop)]
+#[derive(Clone, Copy)]
 pub enum FlagRead {
     Value(bool),
     Refused(Error),

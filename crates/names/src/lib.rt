@@ -2,6 +2,8 @@
 // `NameIndex`; document 01, "Headers and layout" and "Strings"; DWARF 5, section 6.1.1.4).
 //
 // gimli's methods are functions here, given the section and the index: 13 and 14 are tested first, in this order.
+#![tactic(auto)]
+
 pub mod counts; // how many units, buckets and names
 pub mod units; // compile units and type units
 pub mod table; // the names, one after another, and their strings

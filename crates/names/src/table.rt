@@ -11,20 +11,20 @@ use reader::{DebugStrOffset, Error, NameTableIndex, RunTimeEndian, WordRead, too
 use strings::{DebugStr, StrRead};
 
 // A cursor over the names of an index: the number of the next one. Any number fits.
-#[derive(Drop)]
+#[derive(Clone, Copy)]
 pub struct NameTableIter {
     pub name_table_index: NameTableIndex,
 }
 
 // What a step answers, with the cursor after it: the end, a name, or a refusal.
-#[derive(Drop)]
+#[derive(Clone, Copy)]
 pub enum NameTableStep {
     End(NameTableIter),
     Name(NameTableIndex, NameTableIter),
     Refused(Error, NameTableIter),
 }
 
-#[derive(Drop)]
+#[derive(Clone, Copy)]
 pub enum StrOffsetRead {
     Value(DebugStrOffset),
     Refused(Error),

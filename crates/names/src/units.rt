@@ -13,39 +13,39 @@ use reader::{
     read_offset, read_u64, skip,
 };
 
-#[derive(Drop)]
+#[derive(Clone, Copy)]
 pub enum UnitRead {
     Value(DebugInfoOffset),
     Refused(Error),
 }
 
-#[derive(Drop)]
+#[derive(Clone, Copy)]
 pub enum SignatureRead {
     Value(DebugTypeSignature),
     Refused(Error),
 }
 
 // A type unit: the offset of a local one, or the signature of a foreign one.
-#[derive(Drop)]
+#[derive(Clone, Copy)]
 pub enum NameTypeUnit {
     Local(DebugInfoOffset),
     Foreign(DebugTypeSignature),
 }
 
-#[derive(Drop)]
+#[derive(Clone, Copy)]
 pub enum TypeUnitRead {
     Value(NameTypeUnit),
     Refused(Error),
 }
 
 // The only compile unit of an index, or none where it has another number of them.
-#[derive(Drop)]
+#[derive(Clone, Copy)]
 pub enum DefaultUnit {
     Some(DebugInfoOffset),
     None,
 }
 
-#[derive(Drop)]
+#[derive(Clone, Copy)]
 pub enum DefaultUnitRead {
     Value(DefaultUnit),
     Refused(Error),

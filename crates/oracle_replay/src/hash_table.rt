@@ -14,21 +14,21 @@ use tables::{TableCheck, check_table};
 const STEPS: u32 = 8;
 
 // The cursor of a bucket after a step, and whether the step gave a name.
-#[derive(Drop)]
+#[derive(Clone, Copy)]
 struct InBucket {
     cursor: NameBucketIter,
     more: bool,
 }
 
 // The same for the cursor of a hash.
-#[derive(Drop)]
+#[derive(Clone, Copy)]
 struct OfHash {
     cursor: NameHashIter,
     more: bool,
 }
 
 // The hash of a name, or none where there is no such name or no table.
-#[derive(Drop)]
+#[derive(Clone, Copy)]
 pub enum StoredHash {
     Some(u32),
     None,

@@ -5,6 +5,8 @@
 // The input, all numbers little-endian: how many sections there are (2 bytes), and for each the byte order (1 byte, 0 little), the
 // lengths of .debug_names and .debug_str (2 bytes each, at most 4,096), and the bytes of the two. There is more of it than one
 // buffer holds: it is read a section at a time.
+#![tactic(auto)]
+
 mod hash_table; // the names of each bucket and of hashes, and the table check
 mod header_steps; // header steps, and the index of each header
 mod line; // parts of a line
@@ -20,7 +22,7 @@ use reader::{RunTimeEndian, U8Read, U16Read, read_u8, read_u16};
 use tally::Tally;
 
 // The byte order of a section, and the two lengths.
-#[derive(Drop)]
+#[derive(Clone, Copy)]
 struct Head {
     order: RunTimeEndian,
     names: usize,

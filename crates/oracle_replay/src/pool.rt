@@ -17,7 +17,7 @@ use reader::{NameEntryOffset, NameTableIndex, RunTimeEndian};
 const STEPS: u32 = 12;
 
 // Where a cursor stands after a step, and whether the step gave an entry.
-#[derive(Drop)]
+#[derive(Clone, Copy)]
 struct Stepped {
     at: usize,
     more: bool,

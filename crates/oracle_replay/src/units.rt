@@ -11,7 +11,7 @@ use names::{
 use reader::RunTimeEndian;
 
 // The lists of units.
-#[derive(Drop)]
+#[derive(Clone, Copy)]
 enum Kind {
     Compile,
     Local,

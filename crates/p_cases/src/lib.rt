@@ -2,3 +2,5 @@
 // proofs/Cases.antt proves it by computation. specs/CaseA.antt has case A and what the definitions say of it, specs/Queries.antt its
 // query, specs/Texts.antt the text of its listing, specs/Lost.antt the names that tables lose, and specs/Split.antt document 02's entry with two
 // units. The crate stands above all others and has no code.
+#![tactic(auto)]
+

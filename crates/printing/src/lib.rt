@@ -1,6 +1,8 @@
 // Prints the listing of a section to standard output (document 01, "Bytes to try"). Which bytes each line has is decided by `line_text` and
 // `listing_text`, and proved there; here they are written.
 // What cannot be read or written is said on standard error, since a Rattle program has no exit status.
+#![tactic(auto)]
+
 ghost use Rattle.line_text.specs.Room.{Room};
 
 use libc::{STDERR_FILENO, STDIN_FILENO, STDOUT_FILENO};
@@ -13,7 +15,7 @@ use listing_text::next_text;
 const LINES: u32 = 4294967295;
 
 // How many bytes were read, or that a read failed.
-#[derive(Drop)]
+#[derive(Clone, Copy)]
 enum Input {
     Bytes(usize),
     Failed,

@@ -1,6 +1,8 @@
 // The section query (document 01, "The section query"): where the function or type of a name is described, over all indexes of a section.
 //
 // `plan_query` decides what is answered and what there is to write; `query` writes it into the records that it is lent.
+#![tactic(auto)]
+
 ghost use Rattle.std.specs.Prelude.{◌≡◌};
 ghost use Rattle.query_plan.specs.Answers.{query_outcome};
 ghost use Rattle.query.specs.Query.{section_query};

@@ -1,6 +1,8 @@
 // Document 01's cases for the section query ("The section query"), and document 02's for padded numbers and for entries with two units, a named
 // case on each line. A case names the section and what is changed in it, the hash and the name that are asked for, and how many records are
 // lent. The last cases are lines of the file stdin. The file stdout beside src/ has what the documents say, worked out by hand.
+#![tactic(auto)]
+
 mod ask; // a query and its line
 mod sections; // bytes
 mod split; // cases that a line of text describes

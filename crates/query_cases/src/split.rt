@@ -8,7 +8,7 @@ use crate::ask::little;
 use crate::sections::SPLIT;
 
 // The section, and of the change that is being read the place, and the number that is not finished.
-#[derive(Drop)]
+#[derive(Clone, Copy)]
 struct Changed {
     bytes: [u8; 189],
     place: usize,

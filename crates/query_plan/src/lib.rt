@@ -3,6 +3,8 @@
 //
 // What is counted first is kept, the first record and the cursor after it: so a query with one record reads nothing twice, and the walk
 // that writes begins with the first record and ends with the last that there is room for.
+#![tactic(auto)]
+
 ghost use Rattle.std.specs.Prelude.{◌≡◌, ◌+◌, ◌<◌, ◌^◌};
 ghost use Rattle.reader.specs.Listing.{counted, items};
 ghost use Rattle.section_records.specs.Records.{query_left};
@@ -14,7 +16,7 @@ use records::Record;
 use section_records::{QueryIter, QueryStep, first_record};
 
 // How many records there are, or the refusal.
-#[derive(Drop)]
+#[derive(Clone, Copy)]
 pub enum QueryRead {
     Total(u64),
     Refused(Error),
@@ -22,7 +24,7 @@ pub enum QueryRead {
 
 // What there is to write: how many records are left, the first of all, whether it is still to be written, and the cursor after it or after
 // the last that was written.
-#[derive(Drop)]
+#[derive(Clone, Copy)]
 pub struct Writing {
     pub left: u64,
     pub fresh: bool,
@@ -31,14 +33,14 @@ pub struct Writing {
 }
 
 // What the query answers, and what there is to write.
-#[derive(Drop)]
+#[derive(Clone, Copy)]
 pub struct Plan {
     pub answer: QueryRead,
     pub writing: Writing,
 }
 
 // The next record to write, and what there is after it.
-#[derive(Drop)]
+#[derive(Clone, Copy)]
 pub enum WriteStep {
     Record(Record, Writing),
     End,

@@ -4,7 +4,7 @@ ghost use Rattle.std.specs.Prelude.{◌≡◌};
 ghost use Rattle.reader.specs.Numbers.{word_size};
 
 // Whether lengths and offsets have 4 bytes or 8: DWARF 5, section 7.4.
-#[derive(Drop)]
+#[derive(Clone, Copy)]
 pub enum Format {
     // 64-bit DWARF: words of 8 bytes.
     Dwarf64,
@@ -25,31 +25,31 @@ impl Format {
 }
 
 // An offset into the .debug_info section.
-#[derive(Drop)]
+#[derive(Clone, Copy)]
 pub struct DebugInfoOffset(pub usize);
 
 // An offset into the .debug_names section.
-#[derive(Drop)]
+#[derive(Clone, Copy)]
 pub struct DebugNamesOffset(pub usize);
 
 // An offset into the .debug_str section.
-#[derive(Drop)]
+#[derive(Clone, Copy)]
 pub struct DebugStrOffset(pub usize);
 
 // A type signature, as it stands in the foreign type units of an index.
-#[derive(Drop)]
+#[derive(Clone, Copy)]
 pub struct DebugTypeSignature(pub u64);
 
 // An offset from the start of a unit. It stands in records, which callers in C lend.
 #[repr(C)]
-#[derive(Drop)]
+#[derive(Clone, Copy)]
 pub struct UnitOffset(pub usize);
 
 // An offset into the entry pool of an index.
-#[derive(Drop)]
+#[derive(Clone, Copy)]
 pub struct NameEntryOffset(pub usize);
 
 // The number of a name of an index, counted from 0. It stands in records, too.
 #[repr(C)]
-#[derive(Drop)]
+#[derive(Clone, Copy)]
 pub struct NameTableIndex(pub u32);

@@ -1,7 +1,7 @@
 // The byte order of a section (gimli's endianity.rs), the caller's choice in each call.
 
 // Byte order that is selectable at run time.
-#[derive(Drop)]
+#[derive(Clone, Copy)]
 pub enum RunTimeEndian {
     // The first byte is the lowest.
     Little,

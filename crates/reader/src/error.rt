@@ -6,7 +6,7 @@ ghost use Rattle.reader.specs.Errors.{number_of, value_of, longest};
 use crate::common::NameEntryOffset;
 
 // A refusal (document 01's term), with the one value that it carries.
-#[derive(Drop)]
+#[derive(Clone, Copy)]
 pub enum Error {
     // 1. A read or skip past the end of its part, with the place where it began (in a LEB128 number, of the missing byte).
     UnexpectedEof(usize),

@@ -4,6 +4,8 @@
 // A section is read at a place, in a part. A place (document 01's term) is a byte offset from the section's start. A part
 // is given by the place where it ends, `end`; what lies past the section's own end belongs to no part. Any numbers are
 // legal arguments: a call answers or refuses, and each answer, refusals included, equals a definition of specs/.
+#![tactic(auto)]
+
 pub mod error; // why a call says no
 pub mod endianity; // the byte order
 pub mod common; // the format, and the offset types

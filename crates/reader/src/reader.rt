@@ -14,99 +14,99 @@ use crate::endianity::RunTimeEndian;
 use crate::error::Error;
 
 // A number of 8 bits, and the place past it.
-#[derive(Drop)]
+#[derive(Clone, Copy)]
 pub struct Read8 {
     pub value: u8,
     pub next: usize,
 }
 
-#[derive(Drop)]
+#[derive(Clone, Copy)]
 pub enum U8Read {
     Value(Read8),
     Refused(Error),
 }
 
 // A number of 16 bits, and the place past it.
-#[derive(Drop)]
+#[derive(Clone, Copy)]
 pub struct Read16 {
     pub value: u16,
     pub next: usize,
 }
 
-#[derive(Drop)]
+#[derive(Clone, Copy)]
 pub enum U16Read {
     Value(Read16),
     Refused(Error),
 }
 
 // A number of 32 bits, and the place past it.
-#[derive(Drop)]
+#[derive(Clone, Copy)]
 pub struct Read32 {
     pub value: u32,
     pub next: usize,
 }
 
-#[derive(Drop)]
+#[derive(Clone, Copy)]
 pub enum U32Read {
     Value(Read32),
     Refused(Error),
 }
 
 // A number of 64 bits, and the place past it.
-#[derive(Drop)]
+#[derive(Clone, Copy)]
 pub struct Read64 {
     pub value: u64,
     pub next: usize,
 }
 
-#[derive(Drop)]
+#[derive(Clone, Copy)]
 pub enum U64Read {
     Value(Read64),
     Refused(Error),
 }
 
 // A word of a format, as an offset or a length, and the place past it.
-#[derive(Drop)]
+#[derive(Clone, Copy)]
 pub struct ReadWord {
     pub value: usize,
     pub next: usize,
 }
 
-#[derive(Drop)]
+#[derive(Clone, Copy)]
 pub enum WordRead {
     Value(ReadWord),
     Refused(Error),
 }
 
 // An initial length: the number of bytes that follow it, the format that it tells, and the place past it.
-#[derive(Drop)]
+#[derive(Clone, Copy)]
 pub struct InitialLength {
     pub length: usize,
     pub format: Format,
     pub next: usize,
 }
 
-#[derive(Drop)]
+#[derive(Clone, Copy)]
 pub enum LengthRead {
     Value(InitialLength),
     Refused(Error),
 }
 
 // The place past what was skipped.
-#[derive(Drop)]
+#[derive(Clone, Copy)]
 pub enum Skipped {
     To(usize),
     Refused(Error),
 }
 
 // A part that was cut out: from `at` up to `end`, where what follows it begins.
-#[derive(Drop)]
+#[derive(Clone, Copy)]
 pub struct Part {
     pub at: usize,
     pub end: usize,
 }
 
-#[derive(Drop)]
+#[derive(Clone, Copy)]
 pub enum PartRead {
     Value(Part),
     Refused(Error),

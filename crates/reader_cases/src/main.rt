@@ -1,5 +1,7 @@
 // Document 01's cases for bytes, numbers, refusals and strings that are not marked P, and document 02's for padded numbers, a named case on
 // each line. The file stdout beside src/ has what the documents say, worked out by hand.
+#![tactic(auto)]
+
 use leb128::read;
 use reader::{
     DebugStrOffset, Error, Format, NameEntryOffset, RunTimeEndian, read_initial_length,

@@ -2,6 +2,8 @@
 // tag, its unit and its DIE offset.
 //
 // The unit is chosen by `entry_unit` and nowhere else.
+#![tactic(auto)]
+
 pub mod unit; // a unit that is shown, as an answer
 mod type_unit; // the unit that the type_unit attribute names
 mod compile_unit; // the unit that the compile_unit attribute names

@@ -12,7 +12,7 @@ use reader::{Error, NameTableIndex, RunTimeEndian, UnitOffset};
 // A record. Kind and value of the unit are those of `ShownUnit`. Where the DIE offset is absent, `has_die_offset` is 0 and the offset is
 // 0; else it is 1. The two are plain numbers, since a caller in another language lends memory that holds anything.
 #[repr(C)]
-#[derive(Drop)]
+#[derive(Clone, Copy)]
 pub struct Record {
     pub unit_value: u64,
     pub die_offset: UnitOffset,
@@ -26,7 +26,7 @@ pub struct Record {
     pub has_die_offset: u8,
 }
 
-#[derive(Drop)]
+#[derive(Clone, Copy)]
 pub enum RecordRead {
     Value(Record),
     Refused(Error),

@@ -3,20 +3,20 @@ use reader::Error;
 
 // A unit: kind 1 is a compile unit and 2 a local type unit, both with their offset in .debug_info; 3 is a foreign type unit, with its
 // signature; 0 is no unit, with the value 0.
-#[derive(Drop)]
+#[derive(Clone, Copy)]
 pub struct ShownUnit {
     pub kind: u8,
     pub value: u64,
 }
 
-#[derive(Drop)]
+#[derive(Clone, Copy)]
 pub enum ShownUnitRead {
     Value(ShownUnit),
     Refused(Error),
 }
 
 // The unit that an attribute names; none where the entry has no such attribute.
-#[derive(Drop)]
+#[derive(Clone, Copy)]
 pub enum NamedUnit {
     Some(ShownUnit),
     None,

@@ -1,5 +1,7 @@
 // The records of a section, one after another (document 01, "The section query"): those of its indexes in order, each index finished before
 // the next header. The step over them decides everything that a query answers.
+#![tactic(auto)]
+
 ghost use Rattle.std.specs.Prelude.{◌≡◌, List, ℕ};
 ghost use Rattle.section_records.specs.Records.{headers_left, query_left, first_record};
 ghost use Rattle.section_records.specs.Answers.{next_left, next_past, step_left};
@@ -12,7 +14,7 @@ use records::Record;
 
 // A cursor over the records of a section: the place of the next header, the open index with its place in the section, and the cursor over
 // its records. It is no call for customers; any cursor is legal.
-#[derive(Drop)]
+#[derive(Clone, Copy)]
 pub struct QueryIter {
     pub at: usize,
     pub offset: u32,
@@ -21,7 +23,7 @@ pub struct QueryIter {
 }
 
 // What a step answers: a record, with the cursor after it; the end; or a refusal.
-#[derive(Drop)]
+#[derive(Clone, Copy)]
 pub enum QueryStep {
     Record(Record, QueryIter),
     End,
@@ -29,7 +31,7 @@ pub enum QueryStep {
 }
 
 // The next index: a cursor before its first record.
-#[derive(Drop)]
+#[derive(Clone, Copy)]
 pub enum NextIndex {
     Open(QueryIter),
     End,

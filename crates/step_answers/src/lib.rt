@@ -1,5 +1,7 @@
 // Answers of more than one number, as they are handed over to C, C++ and Rust: headers, strings, the steps over buckets and hashes, each with
 // the cursor after it, and the table check.
+#![tactic(auto)]
+
 ghost use Rattle.std.specs.Prelude.{◌≡◌};
 ghost use Rattle.headers.specs.Answers.{header_step_of};
 ghost use Rattle.strings.specs.Answers.{str_outcome};
@@ -16,7 +18,7 @@ use tables::TableCheck;
 
 // A step over the headers: kind 0 is the end; 1 is a header, at the place `value`, with the index that it describes.
 #[repr(C)]
-#[derive(Drop)]
+#[derive(Clone, Copy)]
 pub struct HeaderAnswer {
     pub status: u32,
     pub kind: u32,
@@ -27,7 +29,7 @@ pub struct HeaderAnswer {
 
 // What else a header says: its length is `value`; without an augmentation string its place and length are 0.
 #[repr(C)]
-#[derive(Drop)]
+#[derive(Clone, Copy)]
 pub struct HeaderFacts {
     pub status: u32,
     pub kind: u32,
@@ -39,7 +41,7 @@ pub struct HeaderFacts {
 
 // Where a string stands: it begins at `value`.
 #[repr(C)]
-#[derive(Drop)]
+#[derive(Clone, Copy)]
 pub struct StringAnswer {
     pub status: u32,
     pub kind: u32,
@@ -49,7 +51,7 @@ pub struct StringAnswer {
 
 // A step over the names of a bucket: kind 0 is the end; 1 is the name of number `value`, with the hash that is stored for it.
 #[repr(C)]
-#[derive(Drop)]
+#[derive(Clone, Copy)]
 pub struct BucketAnswer {
     pub status: u32,
     pub kind: u32,
@@ -60,7 +62,7 @@ pub struct BucketAnswer {
 
 // A lookup by hash, or a step of it: kind 0 is the end; 1 is the name of number `value`, and of the lookup itself 0.
 #[repr(C)]
-#[derive(Drop)]
+#[derive(Clone, Copy)]
 pub struct HashAnswer {
     pub status: u32,
     pub kind: u32,
@@ -71,7 +73,7 @@ pub struct HashAnswer {
 // What the table check says: kind 0 is no table; 1 is complete; 2 is incomplete, with the number of missed names in `value`, the smallest of
 // their numbers, and the hash that is stored for that name.
 #[repr(C)]
-#[derive(Drop)]
+#[derive(Clone, Copy)]
 pub struct TableAnswer {
     pub status: u32,
     pub kind: u32,

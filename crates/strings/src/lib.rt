@@ -1,4 +1,6 @@
 // The strings of .debug_str (gimli's read/str.rs; document 01, "Strings"): where the string at an offset stands, and its bytes.
+#![tactic(auto)]
+
 ghost use Rattle.std.specs.Prelude.{◌≡◌, ◌-◌, ◌≤◌, length, take, drop};
 ghost use Rattle.strings.specs.Answers.{str_outcome};
 ghost use Rattle.strings.specs.Strings.{zero_from, get_str, str_bytes};
@@ -6,17 +8,17 @@ ghost use Rattle.strings.specs.Strings.{zero_from, get_str, str_bytes};
 use reader::{DebugStrOffset, Error, Skipped, skip, too_long};
 
 // The lent .debug_str section. gimli's struct holds the section's bytes; here they are lent to each call.
-#[derive(Drop)]
+#[derive(Clone, Copy)]
 pub struct DebugStr;
 
 // Where a string stands in .debug_str: its first byte, and its length without the zero byte that ends it.
-#[derive(Drop)]
+#[derive(Clone, Copy)]
 pub struct Str {
     pub start: usize,
     pub len: usize,
 }
 
-#[derive(Drop)]
+#[derive(Clone, Copy)]
 pub enum StrRead {
     Value(Str),
     Refused(Error),

@@ -4,6 +4,8 @@
 // A name is missed if the run of its own bucket does not reach it: a lookup by its hash then does not list it. The names are passed once,
 // in segments: a segment is a longest row of names that follow one another in one bucket. The run of a bucket goes no further than its first
 // name of another bucket, so it reaches a name exactly if it starts in that name's segment, at the name or before it.
+#![tactic(auto)]
+
 ghost use Rattle.std.specs.Prelude.{◌≡◌, ◌+◌, ◌*◌, ◌^◌, ◌≤◌, ◌<◌, length};
 ghost use Rattle.reader.specs.Outcome.{answered};
 ghost use Rattle.index.specs.Layout.{parts, fitted};
@@ -16,7 +18,7 @@ use index::{NameIndex, Parts, PartsRead, fit};
 use reader::{Error, NameTableIndex, RunTimeEndian};
 
 // What is wrong with an incomplete table: how many names it misses, the smallest of their numbers, and the hash that is stored for that name.
-#[derive(Drop)]
+#[derive(Clone, Copy)]
 pub struct Incomplete {
     pub missed: u32,
     pub name: NameTableIndex,
@@ -24,7 +26,7 @@ pub struct Incomplete {
 }
 
 // What the check of a table says.
-#[derive(Drop)]
+#[derive(Clone, Copy)]
 pub enum TableCheck {
     // The index has no hash table.
     NoTable,
@@ -35,21 +37,21 @@ pub enum TableCheck {
 }
 
 // A segment: its bucket, and its first name.
-#[derive(Drop)]
+#[derive(Clone, Copy)]
 pub struct Segment {
     pub bucket: u32,
     pub first: u32,
 }
 
 // How far the names are passed: the segment of the last of them, and the next name.
-#[derive(Drop)]
+#[derive(Clone, Copy)]
 pub struct Walk {
     pub segment: Segment,
     pub name: u32,
 }
 
 // The missed names so far: how many, and the smallest of their numbers, which is 0 as long as there is none.
-#[derive(Drop)]
+#[derive(Clone, Copy)]
 pub struct Count {
     pub missed: u32,
     pub least: u32,

@@ -1,0 +1,27 @@
+-- `attributes::attribute::type_hash` meets its contract: each answer is the definition's, by the calls and the tests that led there.
+use Rattle.attributes.specs.Meaning.{type_hash_of, type_hash_in}
+use Rattle.attributes.proofs.attribute.type_hash.Goals as goal
+
+pub returns-in-None : goal.returns-in-None
+unfolding type_hash_of type_hash_in
+returns-in-None c =
+    rw
+    c.in-None.is
+
+pub returns-in-Unsigned : goal.returns-in-Unsigned
+unfolding type_hash_of type_hash_in
+returns-in-Unsigned c =
+    rw
+    c.in-Unsigned.is
+
+pub returns-in-Offset : goal.returns-in-Offset
+unfolding type_hash_of type_hash_in
+returns-in-Offset c =
+    rw
+    c.in-Offset.is
+
+pub returns-in-Flag : goal.returns-in-Flag
+unfolding type_hash_of type_hash_in
+returns-in-Flag c =
+    rw
+    c.in-Flag.is

@@ -1,0 +1,12 @@
+-- `attributes::facts::read_facts` meets its contract: what is left to read adds to the facts that were kept (`facts_step`), at first to none, and each pair takes a byte.
+use Rattle.attributes.proofs.AttributeLaws.{facts_from}
+use Rattle.reader.specs.Parts.{left_at}
+use mathlib.Core.Path.{◌≡◌}
+use Rattle.attributes.specs.Attributes.{facts_read}
+use Rattle.attributes.proofs.facts.read_facts.Given as goal
+
+abbrev pub invariant-loop-r : goal.invariant-loop-r
+invariant-loop-r l = facts_read l.order l.s l.pairs l.pairs-end l.at l.end ≡ facts_from l.facts l.order l.s l.pair l.pairs-end l.place l.end
+
+abbrev pub decreases-loop-r : goal.decreases-loop-r
+decreases-loop-r l = left_at l.s l.pair l.pairs-end

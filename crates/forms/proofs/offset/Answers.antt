@@ -1,0 +1,15 @@
+-- `forms::offset` meets its contract: each answer is the definition's, by the calls and the tests that led there.
+use Rattle.forms.specs.Forms.{as_offset}
+use Rattle.forms.proofs.offset.Goals as goal
+
+pub returns-in-Value : goal.returns-in-Value
+unfolding as_offset
+returns-in-Value c =
+    rw
+    c.in-Value.is
+
+pub returns-in-Refused : goal.returns-in-Refused
+unfolding as_offset
+returns-in-Refused c =
+    rw
+    c.in-Refused.is

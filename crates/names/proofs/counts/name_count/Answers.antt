@@ -1,0 +1,19 @@
+-- `names::counts::name_count` meets its contract: each answer is the definition's, by the calls and the tests that led there.
+use Rattle.names.specs.Counts.{name_count_of}
+use Rattle.names.proofs.counts.name_count.Goals as goal
+
+pub returns-in-Value : goal.returns-in-Value
+unfolding name_count_of
+returns-in-Value c =
+    rw (
+      ← c.fit.ensures,
+      c.in-Value.is,
+    )
+
+pub returns-in-Refused : goal.returns-in-Refused
+unfolding name_count_of
+returns-in-Refused c =
+    rw (
+      ← c.fit.ensures,
+      c.in-Refused.is,
+    )

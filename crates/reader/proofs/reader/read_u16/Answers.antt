@@ -1,0 +1,15 @@
+-- `reader::reader::read_u16` meets its contract: where the part has the bytes they are read, and where it has fewer they are refused.
+use native.Mathlib.Omega.{arith}
+use mathlib.Core.Path.{sym}
+use Rattle.reader.proofs.NumberLaws.{number_read, number-missing}
+use Rattle.reader.proofs.reader.read_u16.Goals as goal
+
+pub returns-then-left-ge2 : goal.returns-then-left-ge2
+returns-then-left-ge2 c =
+    let a = c.args in
+    rw (number_read 2 a.order a.s.now a.at a.end (omega arith), ← c.u16_at.ensures)
+
+pub returns-else-left-ge2 : goal.returns-else-left-ge2
+returns-else-left-ge2 c =
+    let a = c.args in
+    sym (number-missing 2 a.order a.s.now a.at a.end (omega arith))
