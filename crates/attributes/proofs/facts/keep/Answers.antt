@@ -1,4 +1,5 @@
 -- `attributes::facts::keep` meets its contract: an attribute of one of the five names is kept where none was (`or_else`), and the other four stay.
+use native.Mathlib.Omega.{arith}
 use borrow.Author.Tests.{ne_eqb}
 use Rattle.attributes.specs.Attributes.{with_fact}
 use Rattle.attributes.proofs.facts.keep.Goals as goal
@@ -46,10 +47,11 @@ returns-in-5 c =
 pub returns-in_default : goal.returns-in_default
 unfolding with_fact
 returns-in_default c =
+    let n = c.args.name in
     rw (
-      ne_eqb _ _ c.in-1.rest.0.0.0.0.1,
-      ne_eqb _ _ c.in-1.rest.0.0.0.1,
-      ne_eqb _ _ c.in-1.rest.0.0.1,
-      ne_eqb _ _ c.in-1.rest.0.1,
-      ne_eqb _ _ c.in-1.rest.1,
+      ne_eqb n 1 (omega arith),
+      ne_eqb n 2 (omega arith),
+      ne_eqb n 3 (omega arith),
+      ne_eqb n 4 (omega arith),
+      ne_eqb n 5 (omega arith),
     )

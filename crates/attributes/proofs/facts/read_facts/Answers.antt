@@ -1,15 +1,10 @@
 -- `attributes::facts::read_facts` meets its contract: what is left to read adds to the facts that were kept (`facts_step`), at first to none, and each pair takes a byte.
-use borrow.Author.Rules.{rules}
 use Rattle.attributes.proofs.AttributeLaws.{facts-start, facts_step}
 use Rattle.abbreviations.proofs.AbbreviationLaws.{pair-forward}
 use mathlib.Core.Path.{sym}
 use native.Mathlib.Omega.{arith}
 use borrow.Author.Tests.{eq-eqb, ne_eqb}
 use Rattle.attributes.proofs.facts.read_facts.Goals as goal
-
-read-debug-names-form-value-requires :
-    tie.Need-read-debug-names-form-value-requires invariant-loop decreases-loop
-read-debug-names-form-value-requires c κs = search rules
 
 pub loop-r-init : goal.loop-r-init
 loop-r-init c = rw c.no_facts-facts.ensures (facts-start _ _ _ _ _ _)
@@ -50,7 +45,7 @@ loop-r-smaller c =
     let a = c.args in
     let l = c.loop-r in
     let read = rw c.in-Value.is at c.read_attribute.ensures in
-    omega (arith, pair-forward a.s.now l.pair a.pairs-end _ (sym read))
+    omega (arith, pair-forward a.s.now l.pair a.pairs_end _ (sym read))
 
 pub loop-r-preserved : goal.loop-r-preserved
 loop-r-preserved c =

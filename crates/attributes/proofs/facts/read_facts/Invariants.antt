@@ -6,7 +6,7 @@ use Rattle.attributes.specs.Attributes.{facts_read}
 use Rattle.attributes.proofs.facts.read_facts.Given as goal
 
 abbrev pub invariant-loop-r : goal.invariant-loop-r
-invariant-loop-r l = facts_read l.order l.s l.pairs l.pairs-end l.at l.end ≡ facts_from l.facts l.order l.s l.pair l.pairs-end l.place l.end
+invariant-loop-r l = facts_read l.order l.s l.pairs l.pairs_end l.at l.end ≡ facts_from l.facts l.order l.s l.pair l.pairs_end l.place l.end
 
 abbrev pub decreases-loop-r : goal.decreases-loop-r
-decreases-loop-r l = left_at l.s l.pair l.pairs-end
+decreases-loop-r l = left_at l.s l.pair l.pairs_end

@@ -1,0 +1,46 @@
+-- `hashes::hash::find_by_hash` meets its contract: each answer is the definition's, by the calls and the tests that led there.
+use Rattle.hashes.specs.Lookups.{find_by_hash, find_by_bucket}
+use Rattle.hashes.proofs.hash.find_by_hash.Goals as goal
+
+pub returns-in-Refused : goal.returns-in-Refused
+unfolding find_by_hash find_by_bucket
+returns-in-Refused c =
+    rw (
+      ← c.bucket_of-bucket.ensures,
+      ← c.fit.ensures,
+      c.in-Refused.is,
+    )
+
+pub returns-in-None : goal.returns-in-None
+unfolding find_by_hash find_by_bucket
+returns-in-None c =
+    rw (
+      ← c.bucket_of-bucket.ensures,
+      ← c.fit.ensures,
+      c.in-Value.is,
+      ← c.first_name.ensures,
+      c.in-None.is,
+    )
+
+pub returns-in-Some : goal.returns-in-Some
+unfolding find_by_hash find_by_bucket
+returns-in-Some c =
+    rw (
+      ← c.bucket_of-bucket.ensures,
+      ← c.fit.ensures,
+      c.in-Value.is,
+      ← c.first_name.ensures,
+      c.in-Some.is,
+      ← c.cursor_at.ensures,
+    )
+
+pub returns-in-Refused-first_name : goal.returns-in-Refused-first_name
+unfolding find_by_hash find_by_bucket
+returns-in-Refused-first_name c =
+    rw (
+      ← c.bucket_of-bucket.ensures,
+      ← c.fit.ensures,
+      c.in-Value.is,
+      ← c.first_name.ensures,
+      c.in-Refused-first_name.is,
+    )
