@@ -1,0 +1,23 @@
+-- `answers::default_unit_answer` meets its contract: each answer is the definition's, by the calls and the tests that led there.
+use Rattle.answers.proofs.default_unit_answer.Goals as goal
+
+pub returns-in-Refused : goal.returns-in-Refused
+returns-in-Refused c =
+    rw (
+      c.in-Refused.is,
+      ← c.refused.ensures,
+    )
+
+pub returns-in-Some : goal.returns-in-Some
+returns-in-Some c =
+    rw (
+      c.in-Value.is,
+      c.in-Some.is,
+    )
+
+pub returns-in-None : goal.returns-in-None
+returns-in-None c =
+    rw (
+      c.in-Value.is,
+      c.in-None.is,
+    )

@@ -1,0 +1,18 @@
+-- `step_answers::hash_answer` meets its contract: each answer is the definition's, by the calls and the tests that led there.
+use Rattle.step_answers.proofs.hash_answer.Goals as goal
+
+pub returns-in-Value : goal.returns-in-Value
+returns-in-Value c =
+    rw (
+      c.in-Value.is,
+      ← c.cursor_of.ensures,
+    )
+
+pub returns-in-Refused : goal.returns-in-Refused
+returns-in-Refused c =
+    rw (
+      c.in-Refused.is,
+      ← c.number.ensures,
+      ← c.value.ensures,
+      ← c.no_cursor.ensures,
+    )
