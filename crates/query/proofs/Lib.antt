@@ -1,3 +1,2 @@
 -- What the walk of `query` uses.
-pub mod After
 pub mod Runs
