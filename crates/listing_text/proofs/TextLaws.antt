@@ -76,6 +76,7 @@ module _ (s : List ℕ) where
   -- what the steps from a cursor on write is the text of what the cursor has left
   from : (steps : List TextStep) (c : ListingIter) → Given c → StepsFrom s c steps → texts steps ≡ joined (map answer_text (left_of c))
   unfolding joined
+  from [] c given made = elim made [ ]
   from (t ∷ []) c given (last_step is no_more) = by_next (each RunTimeEndian.Little s c given)
     where
       by_next : NextLine RunTimeEndian.Little s c → texts (t ∷ []) ≡ joined (map answer_text (left_of c))

@@ -11,18 +11,18 @@ pub with_word-requires : goal.with_word-requires
 with_word-requires c =
     let named = c.with_word-named.ensures in
     let digits = c.decimal-count.ensures in
-    let few = few_digits c.decimal-count.result c.args.number digits.1.0 (omega arith) in
-    record { whole = named.whole; fits = omega (arith, named.fits, digits.0.1) }
+    let few = few_digits c.decimal-count.result c.args.number digits.len (omega arith) in
+    record { whole = named.whole; fits = omega (arith, named.fits, digits.in_bounds.1) }
 
 pub returns : goal.returns
 returns c =
     let a = c.args in
     let named = c.with_word-named.ensures in
     let digits = c.decimal-count.ensures in
-    let few = few_digits c.decimal-count.result a.number digits.1.0 (omega arith) in
-    let number = digits.1.1 ∙ digits_decimal c.decimal-count.result a.number digits.1.0 in
+    let few = few_digits c.decimal-count.result a.number digits.len (omega arith) in
+    let number = digits.digits ∙ digits_decimal c.decimal-count.result a.number digits.len in
     record {
       whole = c.with_word.ensures.whole;
       adds = rw (c.with_word.ensures.adds, named.adds, number) (append_assoc (shown a.text) a.word.now (decimal a.number));
-      fits = omega (arith, named.fits, digits.0.1, c.with_word.ensures.fits);
+      fits = omega (arith, named.fits, digits.in_bounds.1, c.with_word.ensures.fits);
     }

@@ -1,2 +1,0 @@
--- The law of a lent array, which the walk of `query_room` cites.
-pub mod LentArray
