@@ -3,4 +3,3 @@
 // query, specs/Texts.antt the text of its listing, specs/Lost.antt the names that tables lose, and specs/Split.antt document 02's entry with two
 // units. The crate stands above all others and has no code.
 #![tactic(auto)]
-
