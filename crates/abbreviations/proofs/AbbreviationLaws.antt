@@ -9,7 +9,7 @@ use native.Mathlib.Omega.{arith}
 use lib.Dec.{ltb, eqb}
 use lib.Seq.{slice}
 use borrow.Author.Tests.{eq-eqb, ne_eqb, eqb-true, le-ltb, ltb-true, ltb-false}
-use Rattle.reader.specs.Outcome.{Outcome, answered, refused, ◌>>=◌, ◌>>◌, demand, refuse_if}
+use Rattle.reader.specs.Outcome.{Outcome, answered, refused, ◌>>=◌, demand, refuse_if}
 use Rattle.reader.specs.Parts.{part_end, left_at, Forward}
 use Rattle.reader.specs.Numbers.{Read, read_byte}
 use Rattle.leb128.specs.Leb128.{leb128, unsigned_limit, u16_limit}

@@ -9,11 +9,11 @@ use native.Mathlib.Omega.{arith}
 use lib.Dec.{ltb, eqb}
 use borrow.Author.Tests.{eqb-true, eqb-false, eq-eqb, ne_eqb}
 use Rattle.reader.specs.Outcome.{Outcome, answered, refused, ◌>>=◌}
-use Rattle.reader.specs.Parts.{part_end, left_at}
+use Rattle.reader.specs.Parts.{left_at}
 use Rattle.reader.specs.Lists.{memberb}
 use Rattle.reader.specs.declared.endianity.RunTimeEndian.{RunTimeEndian}
 use Rattle.reader.proofs.OutcomeLaws.{refused-answered, same_answer, bind_answered, bind_same, cond_is}
-use Rattle.abbreviations.specs.Abbreviations.{Attribute, Attributes, Pair, pair, before, attributes_in, attributes}
+use Rattle.abbreviations.specs.Abbreviations.{Attributes, Pair, pair, before, attributes_in, attributes}
 use Rattle.abbreviations.proofs.AbbreviationLaws.{pair-forward, pair_none}
 use Rattle.forms.specs.Forms.{Valued, form_value}
 use Rattle.forms.proofs.FormLaws as forms

@@ -4,7 +4,7 @@ use Rattle.std.specs.Prelude.{ℕ, zero, suc, cond, List, [], ◌∷◌, eqb}
 use Rattle.reader.specs.Outcome.{Outcome, answered, refused, ◌>>=◌}
 use Rattle.reader.specs.Parts.{left_at}
 use Rattle.reader.specs.declared.endianity.RunTimeEndian.{RunTimeEndian}
-use Rattle.abbreviations.specs.Abbreviations.{Attribute, Pair, pair}
+use Rattle.abbreviations.specs.Abbreviations.{Attribute, pair}
 use Rattle.forms.specs.declared.NameAttributeValue.{NameAttributeValue}
 use Rattle.forms.specs.Forms.{form_value}
 use Rattle.attributes.specs.declared.attribute.Kind.{Kind}

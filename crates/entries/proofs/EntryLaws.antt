@@ -1,6 +1,6 @@
 -- Laws of entries: the same in the order of the code, which keeps the first attribute of each name and no list; an entry takes a byte;
 -- its handle is below the pool's length.
-use Prim.Native.Nat.{ℕ, ◌+◌, ◌-◌, ◌≤◌, ◌<◌}
+use Prim.Native.Nat.{ℕ, ◌-◌}
 use mathlib.Core.Path.{◌≡◌, refl, sym, ap, ◌∙◌}
 use mathlib.Core.Bool.{Bool, true, false, cond}
 use mathlib.Core.List.{List}
@@ -8,15 +8,14 @@ use mathlib.Core.Option.{Option, some, none, none-ne-some, some-injective}
 use native.Mathlib.Omega.{arith}
 use lib.Dec.{eqb}
 use Rattle.reader.specs.Outcome.{Outcome, answered, refused, ◌>>=◌}
-use Rattle.reader.specs.Parts.{part_end, skipped, Forward}
+use Rattle.reader.specs.Parts.{skipped, Forward}
 use Rattle.reader.specs.Numbers.{Read}
 use Rattle.leb128.specs.Leb128.{leb128, unsigned_limit}
 use Rattle.reader.specs.declared.endianity.RunTimeEndian.{RunTimeEndian}
 use Rattle.reader.specs.declared.common.NameEntryOffset.{NameEntryOffset}
-use Rattle.reader.proofs.OutcomeLaws.{refused-answered, same_answer, bind_answered, bind_same}
+use Rattle.reader.proofs.OutcomeLaws.{refused-answered, same_answer, bind_answered}
 use Rattle.reader.proofs.PartLaws.{skip_answered}
 use Rattle.leb128.proofs.Leb128Laws.{leb128-forward}
-use Rattle.abbreviations.specs.declared.NameAbbreviation.{NameAbbreviation}
 use Rattle.abbreviations.specs.declared.Abbreviation.{Abbreviation}
 use Rattle.abbreviations.specs.Abbreviations.{Declaration, handed_out, table, find, found}
 use Rattle.abbreviations.proofs.AbbreviationLaws.{declaration_read, found_in_table}
@@ -28,7 +27,6 @@ use Rattle.attributes.specs.declared.facts.Facts.{Facts}
 use Rattle.attributes.specs.declared.facts.ReadFacts.{ReadFacts}
 use Rattle.attributes.specs.Attributes.{Values, values, facts, facts_read}
 use Rattle.attributes.proofs.AttributeLaws.{facts-declared, entry_values_onward}
-use Rattle.entries.specs.declared.entry.NameEntry.{NameEntry}
 use Rattle.entries.specs.declared.entry.WholeEntry.{WholeEntry}
 use Rattle.entries.specs.Sanity.{EntriesForward, HandlesBelow}
 use Rattle.entries.specs.Entries.{Entry, or_refuse, entry, name_entry, handed, name_entry_handed, whole, whole_of, entry_read, whole_entry}

@@ -1,8 +1,8 @@
 -- Laws of series: one entry at a time; how long a series can be; what a handle leads to; and demand 3 for entry lookups.
-use Prim.Native.Nat.{ℕ, ◌+◌, ◌-◌, ◌≤◌, ◌<◌}
+use Prim.Native.Nat.{ℕ, ◌+◌, ◌-◌, ◌≤◌}
 use mathlib.Core.Path.{◌≡◌, refl, sym, ap, ◌∙◌}
 use mathlib.Core.Bool.{Bool, true, false, cond}
-use mathlib.Core.List.{List, []}
+use mathlib.Core.List.{List}
 use mathlib.Core.Option.{Option, some, none, none-ne-some, some-injective}
 use native.Mathlib.Omega.{arith}
 use lib.ListN.{length}
@@ -10,9 +10,8 @@ use lib.Dec.{ltb, eqb}
 use borrow.Author.Tests.{eq-eqb, le-ltb, ltb-false}
 use Rattle.reader.specs.Outcome.{Outcome, answered, refused, ◌>>=◌, ◌>>◌, refuse_if}
 use Rattle.reader.specs.Errors.{longest}
-use Rattle.reader.specs.Parts.{part_end, left_at, skipped, Forward}
-use Rattle.reader.specs.Numbers.{Read}
-use Rattle.reader.specs.Listing.{Listing, ended, broken, item, listed, listing, or_broken, items, answers_of, Advances}
+use Rattle.reader.specs.Parts.{part_end, left_at}
+use Rattle.reader.specs.Listing.{ended, listed, or_broken, items, answers_of, Advances}
 use Rattle.reader.specs.Steps.{Step, keeping}
 use Rattle.reader.specs.declared.endianity.RunTimeEndian.{RunTimeEndian}
 use Rattle.reader.specs.declared.common.NameTableIndex.{NameTableIndex}
@@ -31,7 +30,7 @@ use Rattle.entries.specs.declared.series.NameEntryIter.{NameEntryIter}
 use Rattle.entries.specs.Answers.{entry_step_of}
 use Rattle.entries.specs.Sanity.{pool_length, SeriesUnfold, SeriesShort, HandlesLead, HandlesTell}
 use Rattle.entries.specs.Demand3.{EntryLookups}
-use Rattle.entries.specs.Entries.{Entry, or_refuse, entry, name_entry, handed, name_entry_handed, Told, told, whole_of, entry_read, whole_entry}
+use Rattle.entries.specs.Entries.{Entry, entry, name_entry, handed, name_entry_handed, Told, told, whole_of, entry_read, whole_entry}
 use Rattle.entries.specs.Series.{series_start, series_entry, entries_from, series, cursor_at, name_entries, moved, step_showing, entry_step, whole_step}
 use Rattle.entries.proofs.EntryLaws.{entry-offset, entries_forward, pool_end}
 

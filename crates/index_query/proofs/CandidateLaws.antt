@@ -3,17 +3,15 @@ use Prim.Native.Nat.{ℕ, ◌+◌, ◌-◌, ◌≤◌, ◌<◌}
 use mathlib.Core.Path.{◌≡◌, refl, sym, ap, ◌∙◌}
 use mathlib.Core.Bool.{Bool, true, false, cond}
 use mathlib.Core.List.{List, [], ◌∷◌}
-use mathlib.Core.Option.{Option, some, none, none-ne-some, some-injective}
+use mathlib.Core.Option.{Option, some, none}
 use native.Mathlib.Omega.{arith}
 use lib.ListN.{length}
 use lib.Dec.{leb, eqb}
-use borrow.Author.Tests.{eq-eqb, ne_eqb, lt-leb, le-leb}
-use Rattle.reader.specs.Outcome.{Outcome, answered, refused}
-use Rattle.reader.specs.Lists.{numbers_from, filterb, take_while, memberb}
+use borrow.Author.Tests.{eq-eqb, ne_eqb, le-leb}
+use Rattle.reader.specs.Outcome.{Outcome, answered}
+use Rattle.reader.specs.Lists.{numbers_from, filterb, take_while}
 use Rattle.reader.specs.declared.endianity.RunTimeEndian.{RunTimeEndian}
-use Rattle.reader.specs.declared.common.NameTableIndex.{NameTableIndex}
-use Rattle.reader.proofs.OutcomeLaws.{same_answer}
-use Rattle.reader.proofs.ListLaws.{numbers_length, filter-length, while_length, member_filter, past-other}
+use Rattle.reader.proofs.ListLaws.{numbers_length, filter-length, while_length, past-other}
 use Rattle.index.specs.declared.layout.NameIndex.{NameIndex}
 use Rattle.index.specs.declared.layout.Parts.{Parts}
 use Rattle.index.specs.Layout.{parts, fitted}
@@ -23,9 +21,9 @@ use Rattle.hashes.specs.declared.hash.NameHashIter.{NameHashIter}
 use Rattle.hashes.specs.declared.hash.Found.{Found}
 use Rattle.hashes.specs.Table.{nth_of, stored_hash, stored_start, bucket_of, names_from, run_from, examined_from, from_start, run, storing, names_of_hash}
 use Rattle.hashes.specs.Lookups.{bucket_cursor, first_name, cursor_before, find_by_bucket, find_by_hash, first_or, next_storing}
-use Rattle.hashes.proofs.TableLaws.{bucket-below, names_step, storing_step, storing-rest, of_run}
+use Rattle.hashes.proofs.TableLaws.{names_step, storing_step, storing-rest}
 use Rattle.hashes.proofs.LookupLaws.{started, find-answered, hash-answered}
-use Rattle.index_query.specs.Candidates.{candidates, candidates_from}
+use Rattle.index_query.specs.Candidates.{candidates_from}
 
 module _ (order : RunTimeEndian) (s : List ℕ) (i : NameIndex) (hash : ℕ) where
   abbrev hash_of : ℕ → ℕ

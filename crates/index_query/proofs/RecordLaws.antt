@@ -34,7 +34,7 @@ use Rattle.hashes.specs.Table.{names_from, names_of_hash}
 use Rattle.hashes.specs.Lookups.{find_by_hash}
 use Rattle.hashes.proofs.TableLaws.{hash-names-length}
 use Rattle.records.specs.declared.record.Record.{Record}
-use Rattle.records.specs.Records.{Where, entry_record}
+use Rattle.records.specs.Records.{entry_record}
 use Rattle.index_query.specs.declared.series.IndexIter.{IndexIter}
 use Rattle.index_query.specs.Candidates.{candidates, candidates_from, candidates_at}
 use Rattle.index_query.specs.Matching.{name_matches, matching}

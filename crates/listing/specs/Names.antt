@@ -1,6 +1,6 @@
 -- The line of a name: document 01, "name number, stored hash, string offset, entries in its series". `s` is the section.
-use Rattle.std.specs.Prelude.{ℕ, ◌+◌, ◌*◌, cond, List, eqb}
-use Rattle.reader.specs.Outcome.{Outcome, answered, refused, ◌>>=◌}
+use Rattle.std.specs.Prelude.{ℕ, ◌*◌, cond, List, eqb}
+use Rattle.reader.specs.Outcome.{Outcome, answered, ◌>>=◌}
 use Rattle.reader.specs.Parts.{skipped}
 use Rattle.reader.specs.Numbers.{read_number}
 use Rattle.reader.specs.Listing.{counted}

@@ -2,7 +2,7 @@
 -- is .debug_str.
 use Rattle.std.specs.Prelude.{ℕ, ◌+◌, cond, List, length, ltb, leb}
 use Rattle.std.proofs.Math.Option.{some, none}
-use Rattle.reader.specs.Outcome.{Outcome, answered, refused, ◌>>=◌, ◌>>◌, refuse_if}
+use Rattle.reader.specs.Outcome.{Outcome, answered, ◌>>=◌, ◌>>◌, refuse_if}
 use Rattle.reader.specs.Errors.{longest}
 use Rattle.strings.specs.Strings.{Text, get_str, text_bytes}
 use Rattle.reader.specs.Steps.{Step, keeping}

@@ -2,7 +2,6 @@
 use borrow.Author.Tests.{eq-eqb, ne_eqb}
 use native.Mathlib.Omega.{arith}
 use mathlib.Core.Path.{refl, sym}
-use Rattle.abbreviations.specs.Abbreviations.{found}
 use Rattle.abbreviations.proofs.AbbreviationLaws.{found_step, declared_step, with_end, parts-forward}
 use Rattle.abbreviations.proofs.get.Goals as goal
 

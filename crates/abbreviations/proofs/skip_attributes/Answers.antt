@@ -2,7 +2,6 @@
 use borrow.Author.Tests.{eq-eqb, ne_eqb}
 use native.Mathlib.Omega.{arith}
 use mathlib.Core.Path.{refl, sym, ◌∙◌}
-use Rattle.abbreviations.specs.Abbreviations.{attributes_end}
 use Rattle.abbreviations.proofs.AbbreviationLaws.{attributes_end_step, pair-forward, short-some, short-place, pairs_on, pairs_last}
 use Rattle.abbreviations.proofs.skip_attributes.Goals as goal
 

@@ -1,5 +1,5 @@
 -- `line_text::with_field` meets its contract: the toolchain's digits, which are the number's, stand behind the word.
-use mathlib.Core.Path.{ap, ◌∙◌}
+use mathlib.Core.Path.{◌∙◌}
 use mathlib.Core.List.{append_assoc}
 use native.Mathlib.Omega.{arith}
 use Rattle.line_text.specs.Text.{decimal}

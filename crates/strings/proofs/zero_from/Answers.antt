@@ -1,6 +1,5 @@
 -- `strings::zero_from` meets its contract: the first zero byte from the start on is the first from `i` on, at every turn.
 use mathlib.Core.Path.{refl, sym, ◌∙◌}
-use Prim.Native.Nat.{◌-◌}
 use native.Mathlib.Omega.{arith}
 use Rattle.strings.proofs.StringLaws.{zero_here, zero_later, zero_end}
 use Rattle.strings.proofs.zero_from.Goals as goal

@@ -1,5 +1,4 @@
 -- `tables::any_above` meets its contract: whether a start is too high from a bucket on is decided by that bucket or by those after it (`above_step`), and each turn leaves one bucket fewer.
-use Prim.Native.Nat.{◌-◌}
 use mathlib.Core.Path.{refl}
 use native.Mathlib.Omega.{arith}
 use Rattle.tables.proofs.CheckLaws.{above_first, above_step}

@@ -1,7 +1,6 @@
 -- `tables::check_table` meets its contract: the starts are tested by `any_above`; up to the first missed name nothing is counted (`counting_first`); then
 -- each turn counts one name by its segment (`counting_next`), and after the last name the verdict follows from the count (`none_counted`,
 -- `some-counted`).
-use Prim.Native.Nat.{◌-◌}
 use native.Mathlib.Omega.{arith}
 use Rattle.reader.proofs.ListLaws.{past-other}
 use Rattle.hashes.specs.Table.{stored_start, stored_hash}

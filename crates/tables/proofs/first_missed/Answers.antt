@@ -1,6 +1,5 @@
 -- `tables::first_missed` meets its contract: each turn passes a name that its segment says is reached (`searching_next`); the first that is not, is the
 -- first missed name (`searching_found`), and where there is none all names are passed (`searching_end`).
-use Prim.Native.Nat.{◌-◌}
 use native.Mathlib.Omega.{arith}
 use mathlib.Core.Path.{ap}
 use mathlib.Core.Bool.{not}

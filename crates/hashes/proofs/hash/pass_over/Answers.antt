@@ -1,9 +1,7 @@
 -- `hashes::hash::pass_over` meets its contract: the search from a name on is decided by that name or by the search after it (`next_storing_step`), and each turn leaves one name fewer.
-use Prim.Native.Nat.{◌-◌}
 use mathlib.Core.Path.{refl}
 use native.Mathlib.Omega.{arith}
 use borrow.Author.Tests.{eq-eqb, le-leb, lt-leb, ne_eqb}
-use Rattle.hashes.specs.Lookups.{next_storing}
 use Rattle.hashes.proofs.TableLaws.{next_storing_step}
 use Rattle.hashes.proofs.hash.pass_over.Goals as goal
 

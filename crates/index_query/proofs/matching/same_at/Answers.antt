@@ -1,5 +1,4 @@
 -- `index_query::matching::same_at` meets its contract: the bytes are the same if those from position k on are, at every turn.
-use Prim.Native.Nat.{◌-◌}
 use native.Mathlib.Omega.{arith}
 use Rattle.index_query.proofs.MatchLaws.{same_start, same_step, same_end}
 use borrow.Author.Tests.{eq-eqb, ne_eqb}

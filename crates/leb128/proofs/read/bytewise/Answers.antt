@@ -6,7 +6,7 @@ use native.Mathlib.Numerals.{add-one}
 use native.Mathlib.Nat.{pow-succ'}
 use borrow.Author.Tests.{le-ltb, lt-ltb}
 use Rattle.leb128.specs.Leb128.{leb128}
-use Rattle.leb128.proofs.Leb128Laws.{leb128-below, scaled, scaled-start, scaled-more}
+use Rattle.leb128.proofs.Leb128Laws.{leb128-below, scaled-start, scaled-more}
 use Rattle.leb128.proofs.Leb128Limits.{byte-before, room-before, room-last}
 use Rattle.leb128.proofs.read.bytewise.Goals as goal
 

@@ -3,7 +3,6 @@ use mathlib.Core.Path.{refl, sym}
 use native.Mathlib.Omega.{arith}
 use borrow.Author.Tests.{le-ltb, lt-ltb}
 use Rattle.reader.proofs.NumberLaws.{byte-answered}
-use Rattle.leb128.specs.Leb128.{past_padding}
 use Rattle.leb128.proofs.Leb128Limits.{past_padding_step}
 use Rattle.leb128.proofs.read.skip_padding.Goals as goal
 

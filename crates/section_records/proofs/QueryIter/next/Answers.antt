@@ -1,6 +1,5 @@
 -- `section_records::QueryIter::next` meets its contract: what a cursor has left is what its index has left, and then what the headers past it have; each turn is past another header.
 use mathlib.Core.Path.{refl}
-use Prim.Native.Nat.{◌-◌}
 use native.Mathlib.Omega.{arith}
 use Rattle.reader.specs.Listing.{followed_by}
 use Rattle.section_records.specs.Records.{query_left}
