@@ -7,11 +7,11 @@
 #![tactic(auto)]
 
 use leb128::read;
-use libc::STDIN_FILENO;
 use reader::{
     DebugStrOffset, Format, RunTimeEndian, U8Read, U16Read, read_initial_length, read_u8, read_u16,
     read_u32, read_u64, read_word, skip, split,
 };
+use std::io;
 use strings::DebugStr;
 
 // A call, and where its section stands in the input.
@@ -32,45 +32,46 @@ enum Case {
     Missing,
 }
 
-fn main() {
-    let mut buffer = io::large_buffer();
-    let n = io::read_full(STDIN_FILENO, &mut buffer);
-    replay(&buffer[..n]);
+fn main(rt: HostRuntime) -> io::Result<()> {
+    let mut buffer = [0; 65536];
+    let n = standard_input::read_full(&rt, &mut buffer)?;
+    replay(&rt, &buffer[..n])
 }
 
 // Answers each case in turn.
-fn replay(s: &[u8]) {
+fn replay(rt: &impl Print, s: &[u8]) -> io::Result<()> {
     let mut at = 0;
     let mut number = 0;
     while at < s.len() {
-        let next = one(number, s, at);
+        let next = one(rt, number, s, at)?;
         if next <= at {
-            return;
+            return Ok(());
         }
         at = next;
         number = number + 1;
     }
+    Ok(())
 }
 
 // Answers the case at a place, and gives the place past it; where no whole case stands there, the end.
-fn one(number: usize, s: &[u8], at: usize) -> usize {
-    show::decimal(number as u64);
+fn one(rt: &impl Print, number: usize, s: &[u8], at: usize) -> io::Result<usize> {
+    show::decimal(rt, number as u64)?;
     match case_at(s, at) {
         Case::Missing => {
-            show::text(b" is cut short\n");
-            s.len()
+            show::text(rt, b" is cut short\n")?;
+            Ok(s.len())
         }
         Case::Of(call, len) => {
             let start = call.start;
             if s.len() < start {
-                return s.len();
+                return Ok(s.len());
             }
             if s.len() - start < len {
-                show::text(b" is cut short\n");
-                return s.len();
+                show::text(rt, b" is cut short\n")?;
+                return Ok(s.len());
             }
-            answer(call, &s[start..start + len]);
-            start + len
+            answer(rt, call, &s[start..start + len])?;
+            Ok(start + len)
         }
     }
 }
@@ -110,58 +111,58 @@ fn case_at(s: &[u8], at: usize) -> Case {
 }
 
 // Makes the call and writes its answer.
-fn answer(call: Call, s: &[u8]) {
+fn answer(rt: &impl Print, call: Call, s: &[u8]) -> io::Result<()> {
     let op = call.op;
     let order = call.order;
     match op {
         1 => {
-            show::text(b" u8");
-            show::u8_read(read_u8(s, call.at, call.end))
+            show::text(rt, b" u8")?;
+            show::u8_read(rt, read_u8(s, call.at, call.end))
         }
         2 => {
-            show::text(b" u16");
-            show::u16_read(read_u16(order, s, call.at, call.end))
+            show::text(rt, b" u16")?;
+            show::u16_read(rt, read_u16(order, s, call.at, call.end))
         }
         3 => {
-            show::text(b" u32");
-            show::u32_read(read_u32(order, s, call.at, call.end))
+            show::text(rt, b" u32")?;
+            show::u32_read(rt, read_u32(order, s, call.at, call.end))
         }
         4 => {
-            show::text(b" u64");
-            show::u64_read(read_u64(order, s, call.at, call.end))
+            show::text(rt, b" u64")?;
+            show::u64_read(rt, read_u64(order, s, call.at, call.end))
         }
         5 => {
-            show::text(b" word32");
-            show::word_read(read_word(Format::Dwarf32, order, s, call.at, call.end))
+            show::text(rt, b" word32")?;
+            show::word_read(rt, read_word(Format::Dwarf32, order, s, call.at, call.end))
         }
         6 => {
-            show::text(b" word64");
-            show::word_read(read_word(Format::Dwarf64, order, s, call.at, call.end))
+            show::text(rt, b" word64")?;
+            show::word_read(rt, read_word(Format::Dwarf64, order, s, call.at, call.end))
         }
         7 => {
-            show::text(b" length");
-            show::length_read(read_initial_length(order, s, call.at, call.end))
+            show::text(rt, b" length")?;
+            show::length_read(rt, read_initial_length(order, s, call.at, call.end))
         }
         8 => {
-            show::text(b" uleb128");
-            show::u64_read(read::unsigned(s, call.at, call.end))
+            show::text(rt, b" uleb128")?;
+            show::u64_read(rt, read::unsigned(s, call.at, call.end))
         }
         9 => {
-            show::text(b" uleb128_u16");
-            show::u16_read(read::u16(s, call.at, call.end))
+            show::text(rt, b" uleb128_u16")?;
+            show::u16_read(rt, read::u16(s, call.at, call.end))
         }
         10 => {
-            show::text(b" skip");
-            show::skipped(skip(call.arg, s, call.at, call.end))
+            show::text(rt, b" skip")?;
+            show::skipped(rt, skip(call.arg, s, call.at, call.end))
         }
         11 => {
-            show::text(b" split");
-            show::part_read(split(call.arg, s, call.at, call.end))
+            show::text(rt, b" split")?;
+            show::part_read(rt, split(call.arg, s, call.at, call.end))
         }
         12 => {
-            show::text(b" str");
-            show::str_read(DebugStr::get_str(s, DebugStrOffset(call.arg)))
+            show::text(rt, b" str")?;
+            show::str_read(rt, DebugStr::get_str(s, DebugStrOffset(call.arg)))
         }
-        _ => show::text(b" is no call\n"),
+        _ => show::text(rt, b" is no call\n"),
     }
 }

@@ -36,20 +36,22 @@ use headers::cut_header;
 use index::words;
 use names::nth_word;
 use reader::{Format, RunTimeEndian};
+use std::io;
 
 // The cases of a text, one on each line.
-pub fn lines(text: &[u8]) {
+pub fn lines(rt: &impl Print, text: &[u8]) -> io::Result<()> {
     let mut from = 0;
     for at in 0..text.len() {
         if from <= at && text[at] == b'\n' {
-            case(&text[from..at]);
+            case(rt, &text[from..at])?;
             from = at + 1;
         }
     }
+    Ok(())
 }
 
 // A line: its section, with a byte changed if the line says so.
-fn case(line: &[u8]) {
+fn case(rt: &impl Print, line: &[u8]) -> io::Result<()> {
     let read = bytes_of(line);
     let mut bytes = read.values;
     if let Number::Some(place) = number_of(line, 3, 0) {
@@ -57,53 +59,56 @@ fn case(line: &[u8]) {
             bytes[place as usize] = (given(line, 3, 1) % 256) as u8;
         }
     }
-    section(line, &bytes, read.digits / 2);
+    section(rt, line, &bytes, read.digits / 2)
 }
 
 // The section is at the start of the bytes.
-fn section(line: &[u8], bytes: &[u8; 128], len: usize) {
+fn section(rt: &impl Print, line: &[u8], bytes: &[u8; 128], len: usize) -> io::Result<()> {
     let whole = &bytes[..];
     if line.len() < 2 {
-        return;
+        return Ok(());
     }
     if whole.len() < len {
-        return;
+        return Ok(());
     }
-    asked(line, line[0], line[1], &whole[0..len]);
+    asked(rt, line, line[0], line[1], &whole[0..len])
 }
 
 // What is asked of the section, with the name of the case and the answer on a line.
-fn asked(line: &[u8], what: u8, letter: u8, s: &[u8]) {
+fn asked(rt: &impl Print, line: &[u8], what: u8, letter: u8, s: &[u8]) -> io::Result<()> {
     let order = if letter == b'B' {
         RunTimeEndian::Big
     } else {
         RunTimeEndian::Little
     };
     match what {
-        b'#' => {}
-        b'f' => header_steps::first(line, order, s),
-        b'x' => header_steps::open(line, order, s),
-        b't' => header_steps::three(line, order, s),
-        b'r' => cuts::kept(line),
-        b'l' => cuts::fitted(line),
-        b'i' => calls::opened(line, order, s),
-        b'v' => calls::walk(line, order, s),
+        b'#' => Ok(()),
+        b'f' => header_steps::first(rt, line, order, s),
+        b'x' => header_steps::open(rt, line, order, s),
+        b't' => header_steps::three(rt, line, order, s),
+        b'r' => cuts::kept(rt, line),
+        b'l' => cuts::fitted(rt, line),
+        b'i' => calls::opened(rt, line, order, s),
+        b'v' => calls::walk(rt, line, order, s),
         b'n' => {
-            print::case(line);
-            show::word_read(nth_word(Format::Dwarf32, order, s, 60, 72, count(given(line, 2, 0))));
+            print::case(rt, line)?;
+            show::word_read(
+                rt,
+                nth_word(Format::Dwarf32, order, s, 60, 72, count(given(line, 2, 0))),
+            )
         }
         b'w' => {
-            print::case(line);
-            print::table(parse(s, 0, s.len()));
-            each(line, what, order, s);
+            print::case(rt, line)?;
+            print::table(rt, parse(s, 0, s.len()))?;
+            each(rt, line, what, order, s)
         }
-        b'j' | b'm' | b'p' | b'h' | b'k' => made(line, what, letter, s),
-        _ => each(line, what, order, s),
+        b'j' | b'm' | b'p' | b'h' | b'k' => made(rt, line, what, letter, s),
+        _ => each(rt, line, what, order, s),
     }
 }
 
 // An index, or a header, that is made of the numbers.
-fn made(line: &[u8], what: u8, letter: u8, s: &[u8]) {
+fn made(rt: &impl Print, line: &[u8], what: u8, letter: u8, s: &[u8]) -> io::Result<()> {
     let wide = letter == b'6';
     let format = if wide {
         Format::Dwarf64
@@ -117,44 +122,52 @@ fn made(line: &[u8], what: u8, letter: u8, s: &[u8]) {
     };
     let i = index_of(format, line);
     match what {
-        b'j' => calls::made(line, order, s, i),
-        b'm' => calls::every(line, order, s, i),
-        b'p' => misfits::fits(line, s, i),
-        b'h' => misfits::header(line, s),
+        b'j' => calls::made(rt, line, order, s, i),
+        b'm' => calls::every(rt, line, order, s, i),
+        b'p' => misfits::fits(rt, line, s, i),
+        b'h' => misfits::header(rt, line, s),
         _ => {
-            print::case(line);
-            show::ok1(words(format, i.compile_unit_count) as u64);
+            print::case(rt, line)?;
+            show::ok1(rt, words(format, i.compile_unit_count) as u64)
         }
     }
 }
 
 // What is asked for each of the numbers, at most eight.
-fn each(line: &[u8], what: u8, order: RunTimeEndian, s: &[u8]) {
+fn each(rt: &impl Print, line: &[u8], what: u8, order: RunTimeEndian, s: &[u8]) -> io::Result<()> {
     for k in 0..8 {
         match number_of(line, 2, k) {
-            Number::Some(n) => one(line, what, order, s, n),
-            Number::None => return,
+            Number::Some(n) => one(rt, line, what, order, s, n)?,
+            Number::None => return Ok(()),
         }
     }
+    Ok(())
 }
 
 // The name, the number and the answer; a search has "code" before its number.
-fn one(line: &[u8], what: u8, order: RunTimeEndian, s: &[u8], n: u64) {
+fn one(
+    rt: &impl Print,
+    line: &[u8],
+    what: u8,
+    order: RunTimeEndian,
+    s: &[u8],
+    n: u64,
+) -> io::Result<()> {
     let at = n as usize;
-    show::text(name_of(line));
+    show::text(rt, name_of(line))?;
     if what == b'w' || what == b'q' {
-        show::text(b", code");
+        show::text(rt, b", code")?;
     }
-    print::number(n);
-    show::text(b":");
+    print::number(rt, n)?;
+    show::text(rt, b":")?;
     match what {
-        b's' => header_steps::stands(order, s, at),
-        b'g' => cuts::opened(order, s, at),
-        b'c' => print::cut_read(cut_header(order, s, at)),
-        b'b' => header_steps::body(order, s, at),
-        b'e' => print::table(parse(s, 0, at)),
-        b'd' => print::declaration(read_declaration(s, at, s.len())),
-        b'a' => print::attribute(read_attribute(s, at, s.len())),
-        _ => print::abbreviation(get(s, 0, s.len(), n)),
+        b's' => header_steps::stands(rt, order, s, at),
+        b'g' => cuts::opened(rt, order, s, at),
+        b'c' => print::cut_read(rt, cut_header(order, s, at)),
+        b'b' => header_steps::body(rt, order, s, at),
+        b'e' => print::table(rt, parse(s, 0, at)),
+        b'd' => print::declaration(rt, read_declaration(s, at, s.len())),
+        b'a' => print::attribute(rt, read_attribute(s, at, s.len())),
+        _ => print::abbreviation(rt, get(s, 0, s.len(), n)),
     }
 }

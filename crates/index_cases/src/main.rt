@@ -11,18 +11,18 @@ mod misfits; // handles that may not fit
 mod print; // what is printed
 mod sections; // bytes and indexes
 
-use libc::STDIN_FILENO;
+use std::io;
 
-fn main() {
-    let mut bytes = io::large_buffer();
-    let len = io::read_full(STDIN_FILENO, &mut bytes);
-    run(&bytes, len);
+fn main(rt: HostRuntime) -> io::Result<()> {
+    let mut bytes = [0; 65536];
+    let len = standard_input::read_full(&rt, &mut bytes)?;
+    run(&rt, &bytes, len)
 }
 
 // The text at the start of the bytes.
-fn run(bytes: &[u8], len: usize) {
+fn run(rt: &impl Print, bytes: &[u8], len: usize) -> io::Result<()> {
     if bytes.len() < len {
-        return;
+        return Ok(());
     }
-    cases::lines(&bytes[0..len]);
+    cases::lines(rt, &bytes[0..len])
 }

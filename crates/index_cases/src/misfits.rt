@@ -5,14 +5,15 @@ use crate::print;
 use headers::{Augmentation, NameIndexHeader};
 use index::{NameIndex, fit};
 use reader::{DebugNamesOffset, Format, Part};
+use std::io;
 
 // Case A's header with another content: `NameIndex::new`, and gimli's other name for it.
-pub fn header(line: &[u8], s: &[u8]) {
+pub fn header(rt: &impl Print, line: &[u8], s: &[u8]) -> io::Result<()> {
     let h = with_content(given(line, 2, 0) as usize, given(line, 2, 1) as usize);
-    print::case(line);
-    print::index_read(NameIndex::new(s, h));
-    print::call(line, b"its method");
-    print::index_read(index::index(s, h));
+    print::case(rt, line)?;
+    print::index_read(rt, NameIndex::new(s, h))?;
+    print::call(rt, line, b"its method")?;
+    print::index_read(rt, index::index(s, h))
 }
 
 fn with_content(at: usize, end: usize) -> NameIndexHeader {
@@ -35,7 +36,7 @@ fn with_content(at: usize, end: usize) -> NameIndexHeader {
 }
 
 // Where the parts of an index lie, if it fits.
-pub fn fits(line: &[u8], s: &[u8], i: NameIndex) {
-    print::case(line);
-    print::parts_read(fit(s, i));
+pub fn fits(rt: &impl Print, line: &[u8], s: &[u8], i: NameIndex) -> io::Result<()> {
+    print::case(rt, line)?;
+    print::parts_read(rt, fit(s, i))
 }
