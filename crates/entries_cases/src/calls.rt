@@ -9,174 +9,216 @@ use entries::{
 use index::NameIndex;
 use names::NameTypeUnit;
 use reader::{NameEntryOffset, NameTableIndex, RunTimeEndian};
+use std::io;
 
 // What is asked: the name of the section, the call and its number.
-fn head(on: &[u8], call: &[u8], n: u64) {
-    show::text(on);
-    show::text(call);
-    number(n);
-    show::text(b":");
+fn head(rt: &impl Print, on: &[u8], call: &[u8], n: u64) -> io::Result<()> {
+    show::text(rt, on)?;
+    show::text(rt, call)?;
+    number(rt, n)?;
+    show::text(rt, b":")
 }
 
 // A number, after a space.
-fn number(n: u64) {
-    show::text(b" ");
-    show::decimal(n);
+fn number(rt: &impl Print, n: u64) -> io::Result<()> {
+    show::text(rt, b" ")?;
+    show::decimal(rt, n)
 }
 
 // An entry: its offset, its code and its tag.
-fn handle(e: NameEntry) {
+fn handle(rt: &impl Print, e: NameEntry) -> io::Result<()> {
     let offset = e.offset;
-    show::text(b" ok");
-    number(offset.0 as u64);
-    number(e.abbrev_code);
-    number(e.tag as u64);
+    show::text(rt, b" ok")?;
+    number(rt, offset.0 as u64)?;
+    number(rt, e.abbrev_code)?;
+    number(rt, e.tag as u64)
 }
 
 // A step of the cursor that stands at a place: the entry or the end, and the place of the cursor after it, which is handed back.
-pub fn step(on: &[u8], order: RunTimeEndian, s: &[u8], i: NameIndex, at: usize) -> usize {
+pub fn step(
+    rt: &impl Print,
+    on: &[u8],
+    order: RunTimeEndian,
+    s: &[u8],
+    i: NameIndex,
+    at: usize,
+) -> io::Result<usize> {
     let cursor = NameEntryIter { at: at };
-    head(on, b", step from", at as u64);
+    head(rt, on, b", step from", at as u64)?;
     let after = match cursor.next(order, s, i) {
         NameEntryStep::End(c) => {
-            show::text(b" ok end");
+            show::text(rt, b" ok end")?;
             c.at
         }
         NameEntryStep::Entry(e, c) => {
-            handle(e);
+            handle(rt, e)?;
             c.at
         }
         NameEntryStep::Refused(e, c) => {
-            show::text(b" refused");
-            number(e.number() as u64);
-            number(e.value());
+            show::text(rt, b" refused")?;
+            number(rt, e.number() as u64)?;
+            number(rt, e.value())?;
             c.at
         }
     };
-    show::text(b" cursor");
-    number(after as u64);
-    show::text(b"\n");
-    after
+    show::text(rt, b" cursor")?;
+    number(rt, after as u64)?;
+    show::text(rt, b"\n")?;
+    Ok(after)
 }
 
 // The series of a name: the place of its cursor, and then so many steps, each from where the one before it left the cursor.
-pub fn series(on: &[u8], order: RunTimeEndian, s: &[u8], i: NameIndex, name: u32, steps: usize) {
-    head(on, b", name_entries", name as u64);
+pub fn series(
+    rt: &impl Print,
+    on: &[u8],
+    order: RunTimeEndian,
+    s: &[u8],
+    i: NameIndex,
+    name: u32,
+    steps: usize,
+) -> io::Result<()> {
+    head(rt, on, b", name_entries", name as u64)?;
     let mut at = match name_entries(order, s, i, NameTableIndex(name)) {
         EntriesRead::Value(c) => c.at,
         EntriesRead::Refused(e) => {
-            show::refused(e);
-            return;
+            return show::refused(rt, e);
         }
     };
-    show::text(b" ok");
-    number(at as u64);
-    show::text(b"\n");
+    show::text(rt, b" ok")?;
+    number(rt, at as u64)?;
+    show::text(rt, b"\n")?;
     for n in 0..steps {
-        at = step(on, order, s, i, at);
+        at = step(rt, on, order, s, i, at)?;
     }
+    Ok(())
 }
 
 // The entry at an offset.
-pub fn entry(on: &[u8], order: RunTimeEndian, s: &[u8], i: NameIndex, offset: usize) {
-    head(on, b", name_entry", offset as u64);
+pub fn entry(
+    rt: &impl Print,
+    on: &[u8],
+    order: RunTimeEndian,
+    s: &[u8],
+    i: NameIndex,
+    offset: usize,
+) -> io::Result<()> {
+    head(rt, on, b", name_entry", offset as u64)?;
     match name_entry(order, s, i, NameEntryOffset(offset)) {
         EntryRead::Value(e) => {
-            handle(e);
-            show::text(b"\n");
+            handle(rt, e)?;
+            show::text(rt, b"\n")
         }
-        EntryRead::Refused(e) => show::refused(e),
+        EntryRead::Refused(e) => show::refused(rt, e),
     }
 }
 
 // The entries at the first offsets, whether or not an entry begins there.
-pub fn entries(on: &[u8], order: RunTimeEndian, s: &[u8], i: NameIndex, count: usize) {
+pub fn entries(
+    rt: &impl Print,
+    on: &[u8],
+    order: RunTimeEndian,
+    s: &[u8],
+    i: NameIndex,
+    count: usize,
+) -> io::Result<()> {
     for offset in 0..count {
-        entry(on, order, s, i, offset);
+        entry(rt, on, order, s, i, offset)?;
     }
+    Ok(())
 }
 
 // The entry at an offset and its five facts.
-pub fn facts(on: &[u8], order: RunTimeEndian, s: &[u8], i: NameIndex, offset: usize) {
-    entry(on, order, s, i, offset);
-    head(on, b", compile_unit", offset as u64);
-    compile_unit(entries::compile_unit(order, s, i, NameEntryOffset(offset)));
-    head(on, b", type_unit", offset as u64);
-    type_unit(entries::type_unit(order, s, i, NameEntryOffset(offset)));
-    head(on, b", die_offset", offset as u64);
-    die_offset(entries::die_offset(order, s, i, NameEntryOffset(offset)));
-    head(on, b", parent", offset as u64);
-    parent(entries::parent(order, s, i, NameEntryOffset(offset)));
-    head(on, b", type_hash", offset as u64);
-    type_hash(entries::type_hash(order, s, i, NameEntryOffset(offset)));
+pub fn facts(
+    rt: &impl Print,
+    on: &[u8],
+    order: RunTimeEndian,
+    s: &[u8],
+    i: NameIndex,
+    offset: usize,
+) -> io::Result<()> {
+    entry(rt, on, order, s, i, offset)?;
+    head(rt, on, b", compile_unit", offset as u64)?;
+    compile_unit(
+        rt,
+        entries::compile_unit(order, s, i, NameEntryOffset(offset)),
+    )?;
+    head(rt, on, b", type_unit", offset as u64)?;
+    type_unit(rt, entries::type_unit(order, s, i, NameEntryOffset(offset)))?;
+    head(rt, on, b", die_offset", offset as u64)?;
+    die_offset(
+        rt,
+        entries::die_offset(order, s, i, NameEntryOffset(offset)),
+    )?;
+    head(rt, on, b", parent", offset as u64)?;
+    parent(rt, entries::parent(order, s, i, NameEntryOffset(offset)))?;
+    head(rt, on, b", type_hash", offset as u64)?;
+    type_hash(rt, entries::type_hash(order, s, i, NameEntryOffset(offset)))
 }
 
-fn compile_unit(r: EntryUnitRead) {
+fn compile_unit(rt: &impl Print, r: EntryUnitRead) -> io::Result<()> {
     match r {
         EntryUnitRead::Value(unit) => match unit {
-            EntryUnit::Some(u) => show::ok1(u.0 as u64),
-            EntryUnit::None => show::text(b" ok none\n"),
+            EntryUnit::Some(u) => show::ok1(rt, u.0 as u64),
+            EntryUnit::None => show::text(rt, b" ok none\n"),
         },
-        EntryUnitRead::Refused(e) => show::refused(e),
+        EntryUnitRead::Refused(e) => show::refused(rt, e),
     }
 }
 
-fn type_unit(r: EntryTypeUnitRead) {
+fn type_unit(rt: &impl Print, r: EntryTypeUnitRead) -> io::Result<()> {
     let unit = match r {
         EntryTypeUnitRead::Value(u) => u,
         EntryTypeUnitRead::Refused(e) => {
-            show::refused(e);
-            return;
+            return show::refused(rt, e);
         }
     };
     let EntryTypeUnit::Some(found) = unit else {
-        show::text(b" ok none\n");
-        return;
+        return show::text(rt, b" ok none\n");
     };
     match found {
         NameTypeUnit::Local(u) => {
-            show::text(b" ok local");
-            number(u.0 as u64);
+            show::text(rt, b" ok local")?;
+            number(rt, u.0 as u64)?;
         }
         NameTypeUnit::Foreign(t) => {
-            show::text(b" ok foreign");
-            number(t.0);
+            show::text(rt, b" ok foreign")?;
+            number(rt, t.0)?;
         }
     }
-    show::text(b"\n");
+    show::text(rt, b"\n")
 }
 
-fn die_offset(r: DieOffsetRead) {
+fn die_offset(rt: &impl Print, r: DieOffsetRead) -> io::Result<()> {
     match r {
         DieOffsetRead::Value(offset) => match offset {
-            DieOffset::Some(o) => show::ok1(o.0 as u64),
-            DieOffset::None => show::text(b" ok none\n"),
+            DieOffset::Some(o) => show::ok1(rt, o.0 as u64),
+            DieOffset::None => show::text(rt, b" ok none\n"),
         },
-        DieOffsetRead::Refused(e) => show::refused(e),
+        DieOffsetRead::Refused(e) => show::refused(rt, e),
     }
 }
 
-fn parent(r: ParentRead) {
+fn parent(rt: &impl Print, r: ParentRead) -> io::Result<()> {
     match r {
         ParentRead::Value(p) => match p {
             EntryParent::Entry(o) => {
-                show::text(b" ok entry");
-                number(o.0 as u64);
-                show::text(b"\n");
+                show::text(rt, b" ok entry")?;
+                number(rt, o.0 as u64)?;
+                show::text(rt, b"\n")
             }
-            EntryParent::NoParent => show::text(b" ok no parent\n"),
-            EntryParent::NotKnown => show::text(b" ok not known\n"),
+            EntryParent::NoParent => show::text(rt, b" ok no parent\n"),
+            EntryParent::NotKnown => show::text(rt, b" ok not known\n"),
         },
-        ParentRead::Refused(e) => show::refused(e),
+        ParentRead::Refused(e) => show::refused(rt, e),
     }
 }
 
-fn type_hash(r: TypeHashRead) {
+fn type_hash(rt: &impl Print, r: TypeHashRead) -> io::Result<()> {
     match r {
         TypeHashRead::Value(hash) => match hash {
-            TypeHash::Some(h) => show::ok1(h),
-            TypeHash::None => show::text(b" ok none\n"),
+            TypeHash::Some(h) => show::ok1(rt, h),
+            TypeHash::None => show::text(rt, b" ok none\n"),
         },
-        TypeHashRead::Refused(e) => show::refused(e),
+        TypeHashRead::Refused(e) => show::refused(rt, e),
     }
 }

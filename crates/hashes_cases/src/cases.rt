@@ -8,32 +8,34 @@
 use crate::line::numbers_of;
 use crate::{calls, sections};
 use reader::{Format, RunTimeEndian};
+use std::io;
 
 // Case A with a second start.
-pub fn case_a(title: &[u8], order: RunTimeEndian, start: u8) {
+pub fn case_a(rt: &impl Print, title: &[u8], order: RunTimeEndian, start: u8) -> io::Result<()> {
     let mut a = sections::CASE_A;
     a[44] = start;
     let given = numbers_of(b"36 109 1 0 0 2 3 7", 0, 1);
     let i = sections::index_of(Format::Dwarf32, given);
-    show::text(title);
-    calls::lookups(order, &a, i, 2, numbers_of(b"4 9 6 7", 0, 1));
+    show::text(rt, title)?;
+    calls::lookups(rt, order, &a, i, 2, numbers_of(b"4 9 6 7", 0, 1))
 }
 
 // The cases of a text, one on each line.
-pub fn lines(text: &[u8]) {
+pub fn lines(rt: &impl Print, text: &[u8]) -> io::Result<()> {
     let mut from = 0;
     for at in 0..text.len() {
         if from <= at && text[at] == b'\n' {
-            case(&text[from..at]);
+            case(rt, &text[from..at])?;
             from = at + 1;
         }
     }
+    Ok(())
 }
 
 // A line and its answers.
-fn case(line: &[u8]) {
+fn case(rt: &impl Print, line: &[u8]) -> io::Result<()> {
     if line.len() < 2 {
-        return;
+        return Ok(());
     }
     let order = if line[0] == b'B' {
         RunTimeEndian::Big
@@ -47,13 +49,19 @@ fn case(line: &[u8]) {
     };
     let mut bytes = [0; 256];
     sections::write(order, &mut bytes, numbers_of(line, 1, 3));
-    show::text(line);
-    show::text(b"\n");
-    answers(line, order, format, &bytes);
+    show::text(rt, line)?;
+    show::text(rt, b"\n")?;
+    answers(rt, line, order, format, &bytes)
 }
 
 // The answers on the section at the start of the bytes: 4 bytes for each start, and for each name 4 of its hash and two words.
-fn answers(line: &[u8], order: RunTimeEndian, format: Format, bytes: &[u8; 256]) {
+fn answers(
+    rt: &impl Print,
+    line: &[u8],
+    order: RunTimeEndian,
+    format: Format,
+    bytes: &[u8; 256],
+) -> io::Result<()> {
     let starts = numbers_of(line, 1, 2);
     let hashes = numbers_of(line, 2, 3);
     let given = numbers_of(line, 5, 6);
@@ -63,7 +71,7 @@ fn answers(line: &[u8], order: RunTimeEndian, format: Format, bytes: &[u8; 256])
     };
     let whole = &bytes[..];
     if whole.len() < length {
-        return;
+        return Ok(());
     }
     let s = &whole[0..length];
     let i = if given.count == 0 {
@@ -71,6 +79,6 @@ fn answers(line: &[u8], order: RunTimeEndian, format: Format, bytes: &[u8; 256])
     } else {
         sections::index_of(format, given)
     };
-    calls::lookups(order, s, i, starts.count, numbers_of(line, 3, 4));
-    calls::cursors(order, s, i, numbers_of(line, 4, 5));
+    calls::lookups(rt, order, s, i, starts.count, numbers_of(line, 3, 4))?;
+    calls::cursors(rt, order, s, i, numbers_of(line, 4, 5))
 }

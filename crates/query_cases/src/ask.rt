@@ -6,11 +6,12 @@ use lent_records::{Got, old, query_room};
 use query_plan::QueryRead;
 use reader::RunTimeEndian;
 use records::Record;
+use std::io;
 
 // Text, and a number behind it.
-fn number(before: &[u8], n: u64) {
-    show::text(before);
-    show::decimal(n);
+fn number(rt: &impl Print, before: &[u8], n: u64) -> io::Result<()> {
+    show::text(rt, before)?;
+    show::decimal(rt, n)
 }
 
 // Whether a record kept its contents.
@@ -31,49 +32,49 @@ fn kept(r: Record) -> bool {
 }
 
 // A number, after a space.
-fn spaced(n: u64) {
-    number(b" ", n);
+fn spaced(rt: &impl Print, n: u64) -> io::Result<()> {
+    number(rt, b" ", n)
 }
 
 // A record.
-fn record(r: Record) {
+fn record(rt: &impl Print, r: Record) -> io::Result<()> {
     if kept(r) {
-        show::text(b" old");
-        return;
+        return show::text(rt, b" old");
     }
     let name = r.name;
     let die = r.die_offset;
-    number(b" [", r.index_offset as u64);
-    spaced(r.entry_offset as u64);
-    spaced(name.0 as u64);
-    spaced(r.tag as u64);
-    spaced(r.unit_kind as u64);
-    spaced(r.unit_value);
-    spaced(die.0 as u64);
-    spaced(r.has_die_offset as u64);
-    show::text(b"]");
+    number(rt, b" [", r.index_offset as u64)?;
+    spaced(rt, r.entry_offset as u64)?;
+    spaced(rt, name.0 as u64)?;
+    spaced(rt, r.tag as u64)?;
+    spaced(rt, r.unit_kind as u64)?;
+    spaced(rt, r.unit_value)?;
+    spaced(rt, die.0 as u64)?;
+    spaced(rt, r.has_die_offset as u64)?;
+    show::text(rt, b"]")
 }
 
 // What the query answers, and the records.
-fn answered(got: Got) {
+fn answered(rt: &impl Print, got: Got) -> io::Result<()> {
     let answer = got.answer;
     let recs = got.recs;
     match answer {
-        QueryRead::Total(n) => number(b": total ", n),
+        QueryRead::Total(n) => number(rt, b": total ", n)?,
         QueryRead::Refused(e) => {
-            number(b": refused ", e.number() as u64);
-            spaced(e.value());
+            number(rt, b": refused ", e.number() as u64)?;
+            spaced(rt, e.value())?;
         }
     }
-    record(recs[0]);
-    record(recs[1]);
-    record(recs[2]);
-    record(recs[3]);
-    show::text(b"\n");
+    record(rt, recs[0])?;
+    record(rt, recs[1])?;
+    record(rt, recs[2])?;
+    record(rt, recs[3])?;
+    show::text(rt, b"\n")
 }
 
 // The query that is lent so many records, at most four.
 pub fn ask(
+    rt: &impl Print,
     title: &[u8],
     order: RunTimeEndian,
     section: &[u8],
@@ -81,19 +82,27 @@ pub fn ask(
     hash: u32,
     name: &[u8],
     room: usize,
-) {
+) -> io::Result<()> {
     if 4 < room {
-        return;
+        return Ok(());
     }
-    show::text(title);
-    number(b", room ", room as u64);
-    answered(query_room(order, section, strings, hash, name, room));
+    show::text(rt, title)?;
+    number(rt, b", room ", room as u64)?;
+    answered(rt, query_room(order, section, strings, hash, name, room))
 }
 
 // The query of a little-endian section with the strings of `STRINGS`.
-pub fn little(title: &[u8], section: &[u8], hash: u32, name: &[u8], room: usize) {
+pub fn little(
+    rt: &impl Print,
+    title: &[u8],
+    section: &[u8],
+    hash: u32,
+    name: &[u8],
+    room: usize,
+) -> io::Result<()> {
     let strings = sections::STRINGS;
     ask(
+        rt,
         title,
         RunTimeEndian::Little,
         section,
@@ -101,5 +110,5 @@ pub fn little(title: &[u8], section: &[u8], hash: u32, name: &[u8], room: usize)
         hash,
         name,
         room,
-    );
+    )
 }

@@ -8,247 +8,298 @@ mod sections; // bytes
 mod split; // cases that a line of text describes
 
 use crate::ask::{ask, little};
-use libc::STDIN_FILENO;
 use reader::RunTimeEndian;
+use std::io;
 
-fn main() {
+fn main(rt: HostRuntime) -> io::Result<()> {
     let series = sections::SERIES;
     let units = sections::UNITS;
     let two = sections::TWO;
     let big = sections::BIG;
-    case_a();
-    starts();
-    padded();
-    rooms(&series);
-    totals(&series);
-    names(&series);
-    no_match(&series);
-    series_of_none();
-    kinds(&units);
-    unit_numbers();
-    wrong_forms();
-    two_indexes(&two);
-    cut(&two);
-    refused_late();
-    big_endian(&big);
-    other_orders(&two, &big);
-    no_strings(&series);
-    let mut text = io::large_buffer();
-    let len = io::read_full(STDIN_FILENO, &mut text);
-    split_units(&text, len);
+    case_a(&rt)?;
+    starts(&rt)?;
+    padded(&rt)?;
+    rooms(&rt, &series)?;
+    totals(&rt, &series)?;
+    names(&rt, &series)?;
+    no_match(&rt, &series)?;
+    series_of_none(&rt)?;
+    kinds(&rt, &units)?;
+    unit_numbers(&rt)?;
+    wrong_forms(&rt)?;
+    two_indexes(&rt, &two)?;
+    cut(&rt, &two)?;
+    refused_late(&rt)?;
+    big_endian(&rt, &big)?;
+    other_orders(&rt, &two, &big)?;
+    no_strings(&rt, &series)?;
+    let mut text = [0; 65536];
+    let len = standard_input::read_full(&rt, &mut text)?;
+    split_units(&rt, &text, len)
 }
 
 // Document 01's query, and others on case A.
-fn case_a() {
-    on_a(b"case A, 7 de", 2, 7, b"de", 4);
-    on_a(b"case A, 7 de", 2, 7, b"de", 1);
-    on_a(b"case A, 7 de", 2, 7, b"de", 0);
-    on_a(b"case A, 4 abc", 2, 4, b"abc", 4);
-    on_a(b"case A, 9 e", 2, 9, b"e", 4);
-    on_a(b"case A, 9 de", 2, 9, b"de", 4);
-    on_a(b"case A, 7 d", 2, 7, b"d", 4);
-    on_a(b"case A, 7 def", 2, 7, b"def", 4);
-    on_a(b"case A, 6 de", 2, 6, b"de", 4);
+fn case_a(rt: &impl Print) -> io::Result<()> {
+    on_a(rt, b"case A, 7 de", 2, 7, b"de", 4)?;
+    on_a(rt, b"case A, 7 de", 2, 7, b"de", 1)?;
+    on_a(rt, b"case A, 7 de", 2, 7, b"de", 0)?;
+    on_a(rt, b"case A, 4 abc", 2, 4, b"abc", 4)?;
+    on_a(rt, b"case A, 9 e", 2, 9, b"e", 4)?;
+    on_a(rt, b"case A, 9 de", 2, 9, b"de", 4)?;
+    on_a(rt, b"case A, 7 d", 2, 7, b"d", 4)?;
+    on_a(rt, b"case A, 7 def", 2, 7, b"def", 4)?;
+    on_a(rt, b"case A, 6 de", 2, 6, b"de", 4)
 }
 
 // Case A with another second start. The hashes begin at 48, and a start above N + 1 = 4 is refused there; the first bucket is as it was.
-fn starts() {
-    on_a(b"case A, second start 0, 9 e", 0, 9, b"e", 4);
-    on_a(b"case A, second start 3, 9 e", 3, 9, b"e", 4);
-    on_a(b"case A, second start 3, 7 de", 3, 7, b"de", 4);
-    on_a(b"case A, second start 4, 9 e", 4, 9, b"e", 4);
-    on_a(b"case A, second start 5, 9 e", 5, 9, b"e", 4);
-    on_a(b"case A, second start 5, 9 e", 5, 9, b"e", 0);
-    on_a(b"case A, second start 5, 4 abc", 5, 4, b"abc", 4);
+fn starts(rt: &impl Print) -> io::Result<()> {
+    on_a(rt, b"case A, second start 0, 9 e", 0, 9, b"e", 4)?;
+    on_a(rt, b"case A, second start 3, 9 e", 3, 9, b"e", 4)?;
+    on_a(rt, b"case A, second start 3, 7 de", 3, 7, b"de", 4)?;
+    on_a(rt, b"case A, second start 4, 9 e", 4, 9, b"e", 4)?;
+    on_a(rt, b"case A, second start 5, 9 e", 5, 9, b"e", 4)?;
+    on_a(rt, b"case A, second start 5, 9 e", 5, 9, b"e", 0)?;
+    on_a(rt, b"case A, second start 5, 4 abc", 5, 4, b"abc", 4)
 }
 
 // Case A with this second start; its own is 2.
-fn on_a(title: &[u8], second: u8, hash: u32, name: &[u8], room: usize) {
+fn on_a(
+    rt: &impl Print,
+    title: &[u8],
+    second: u8,
+    hash: u32,
+    name: &[u8],
+    room: usize,
+) -> io::Result<()> {
     let mut a = sections::CASE_A;
     let strings = sections::STRINGS_A;
     a[44] = second;
-    ask(title, RunTimeEndian::Little, &a, &strings, hash, name, room);
+    ask(
+        rt,
+        title,
+        RunTimeEndian::Little,
+        &a,
+        &strings,
+        hash,
+        name,
+        room,
+    )
 }
 
 // Case A with every number padded: unchanged, with the 0 at 36 that stands there; with a bit in the eleventh and in the twelfth byte of the second code,
 // at 171 and 172; with one in the code 0 behind it, which ends at 189; with the pool's last byte, at 216, continued, so that the next byte is
 // missing, and with a bit in it besides; and with a bit in the tag, at 99, and the table's last byte, at 132, continued.
-fn padded() {
-    on_padded(b"padded A, 4 abc", 36, 0, 4, b"abc");
-    on_padded(b"padded A, 7 de", 36, 0, 7, b"de");
-    on_padded(b"padded A, 9 e", 36, 0, 9, b"e");
-    on_padded(b"padded A, 81 at 171, 7 de", 171, 0x81, 7, b"de");
-    on_padded(b"padded A, 81 at 171, 4 abc", 171, 0x81, 4, b"abc");
-    on_padded(b"padded A, 01 at 172, 7 de", 172, 1, 7, b"de");
-    on_padded(b"padded A, 01 at 188, 7 de", 188, 1, 7, b"de");
-    on_padded(b"padded A, 80 at 216, 9 e", 216, 0x80, 9, b"e");
-    on_padded(b"padded A, 81 at 216, 9 e", 216, 0x81, 9, b"e");
-    on_padded(b"padded A, 81 at 99, 7 de", 99, 0x81, 7, b"de");
-    on_padded(b"padded A, 80 at 132, 7 de", 132, 0x80, 7, b"de");
+fn padded(rt: &impl Print) -> io::Result<()> {
+    on_padded(rt, b"padded A, 4 abc", 36, 0, 4, b"abc")?;
+    on_padded(rt, b"padded A, 7 de", 36, 0, 7, b"de")?;
+    on_padded(rt, b"padded A, 9 e", 36, 0, 9, b"e")?;
+    on_padded(rt, b"padded A, 81 at 171, 7 de", 171, 0x81, 7, b"de")?;
+    on_padded(rt, b"padded A, 81 at 171, 4 abc", 171, 0x81, 4, b"abc")?;
+    on_padded(rt, b"padded A, 01 at 172, 7 de", 172, 1, 7, b"de")?;
+    on_padded(rt, b"padded A, 01 at 188, 7 de", 188, 1, 7, b"de")?;
+    on_padded(rt, b"padded A, 80 at 216, 9 e", 216, 0x80, 9, b"e")?;
+    on_padded(rt, b"padded A, 81 at 216, 9 e", 216, 0x81, 9, b"e")?;
+    on_padded(rt, b"padded A, 81 at 99, 7 de", 99, 0x81, 7, b"de")?;
+    on_padded(rt, b"padded A, 80 at 132, 7 de", 132, 0x80, 7, b"de")
 }
 
-fn on_padded(title: &[u8], at: usize, byte: u8, hash: u32, name: &[u8]) {
+fn on_padded(
+    rt: &impl Print,
+    title: &[u8],
+    at: usize,
+    byte: u8,
+    hash: u32,
+    name: &[u8],
+) -> io::Result<()> {
     let mut s = sections::PADDED_A;
     let strings = sections::STRINGS_A;
     if at < s.len() {
         s[at] = byte;
-        ask(title, RunTimeEndian::Little, &s, &strings, hash, name, 4);
+        ask(
+            rt,
+            title,
+            RunTimeEndian::Little,
+            &s,
+            &strings,
+            hash,
+            name,
+            4,
+        )?;
     }
+    Ok(())
 }
 
 // Records: none, fewer than the total, as many, and more.
-fn rooms(s: &[u8]) {
-    little(b"series, 12 three", s, 12, b"three", 0);
-    little(b"series, 12 three", s, 12, b"three", 1);
-    little(b"series, 12 three", s, 12, b"three", 2);
-    little(b"series, 12 three", s, 12, b"three", 3);
-    little(b"series, 12 three", s, 12, b"three", 4);
+fn rooms(rt: &impl Print, s: &[u8]) -> io::Result<()> {
+    little(rt, b"series, 12 three", s, 12, b"three", 0)?;
+    little(rt, b"series, 12 three", s, 12, b"three", 1)?;
+    little(rt, b"series, 12 three", s, 12, b"three", 2)?;
+    little(rt, b"series, 12 three", s, 12, b"three", 3)?;
+    little(rt, b"series, 12 three", s, 12, b"three", 4)
 }
 
 // Totals above the records, equal to them, and 0. "five" and "four" have one hash.
-fn totals(s: &[u8]) {
-    little(b"series, 10 four", s, 10, b"four", 3);
-    little(b"series, 10 four", s, 10, b"four", 4);
-    little(b"series, 10 five", s, 10, b"five", 0);
-    little(b"series, 10 five", s, 10, b"five", 4);
-    little(b"series, 9 none", s, 9, b"none", 0);
-    little(b"series, 9 none", s, 9, b"none", 4);
+fn totals(rt: &impl Print, s: &[u8]) -> io::Result<()> {
+    little(rt, b"series, 10 four", s, 10, b"four", 3)?;
+    little(rt, b"series, 10 four", s, 10, b"four", 4)?;
+    little(rt, b"series, 10 five", s, 10, b"five", 0)?;
+    little(rt, b"series, 10 five", s, 10, b"five", 4)?;
+    little(rt, b"series, 9 none", s, 9, b"none", 0)?;
+    little(rt, b"series, 9 none", s, 9, b"none", 4)
 }
 
 // Two names with one string and one series, with another name between them; the empty name; and a candidate whose string cannot be read.
-fn names(s: &[u8]) {
-    little(b"series, 7 twin", s, 7, b"twin", 4);
-    little(b"series, 7 twin", s, 7, b"twin", 3);
-    little(b"series, 14 the empty name", s, 14, b"", 4);
-    little(b"series, 11 end", s, 11, b"end", 4);
-    little(b"series, 11 end", s, 11, b"end", 0);
-    little(b"series, 11 five", s, 11, b"five", 4);
+fn names(rt: &impl Print, s: &[u8]) -> io::Result<()> {
+    little(rt, b"series, 7 twin", s, 7, b"twin", 4)?;
+    little(rt, b"series, 7 twin", s, 7, b"twin", 3)?;
+    little(rt, b"series, 14 the empty name", s, 14, b"", 4)?;
+    little(rt, b"series, 11 end", s, 11, b"end", 4)?;
+    little(rt, b"series, 11 end", s, 11, b"end", 0)?;
+    little(rt, b"series, 11 five", s, 11, b"five", 4)
 }
 
 // Names that match nothing: with the hash of another name, and with a zero byte in them, though .debug_str has these bytes in a row.
-fn no_match(s: &[u8]) {
-    little(b"series, 9 twin", s, 9, b"twin", 4);
-    little(b"series, 10 the empty name", s, 10, b"", 4);
-    little(b"series, 14 a zero byte", s, 14, b"\x00", 4);
-    little(b"series, 10 five and a zero byte", s, 10, b"five\x00", 4);
+fn no_match(rt: &impl Print, s: &[u8]) -> io::Result<()> {
+    little(rt, b"series, 9 twin", s, 9, b"twin", 4)?;
+    little(rt, b"series, 10 the empty name", s, 10, b"", 4)?;
+    little(rt, b"series, 14 a zero byte", s, 14, b"\x00", 4)?;
     little(
+        rt,
+        b"series, 10 five and a zero byte",
+        s,
+        10,
+        b"five\x00",
+        4,
+    )?;
+    little(
+        rt,
         b"series, 12 three, a zero byte and none",
         s,
         12,
         b"three\x00none",
         4,
-    );
+    )
 }
 
 // The series of "none" at the pool's end, and past it: the pool begins at 155.
-fn series_of_none() {
+fn series_of_none(rt: &impl Print) -> io::Result<()> {
     let mut s = sections::SERIES;
     s[132] = 33;
-    little(b"series, none at the pool's end, 9 none", &s, 9, b"none", 4);
+    little(
+        rt,
+        b"series, none at the pool's end, 9 none",
+        &s,
+        9,
+        b"none",
+        4,
+    )?;
     s[132] = 34;
-    little(b"series, none past the pool, 9 none", &s, 9, b"none", 4);
+    little(rt, b"series, none past the pool, 9 none", &s, 9, b"none", 4)
 }
 
 // Units by compile_unit, by local and foreign type_unit, and none for C = 2; and an entry with both, whose type unit is shown. There is no hash
 // table.
-fn kinds(s: &[u8]) {
-    little(b"units, 0 unit", s, 0, b"unit", 4);
-    little(b"units, 4294967295 unit", s, 4294967295, b"unit", 4);
-    little(b"units, 0 both", s, 0, b"both", 4);
-    little(b"units, 0 none", s, 0, b"none", 4);
+fn kinds(rt: &impl Print, s: &[u8]) -> io::Result<()> {
+    little(rt, b"units, 0 unit", s, 0, b"unit", 4)?;
+    little(rt, b"units, 4294967295 unit", s, 4294967295, b"unit", 4)?;
+    little(rt, b"units, 0 both", s, 0, b"both", 4)?;
+    little(rt, b"units, 0 none", s, 0, b"none", 4)
 }
 
 // Numbers of units equal to the count and larger: of the first entry, and of the third. And the string of the last name, where the first
 // name matches: without a zero byte, at the end of .debug_str, and past it.
-fn unit_numbers() {
-    unit(b"units, compile unit 2, 0 unit", 104, 2, 4);
-    unit(b"units, compile unit 3, 0 unit", 104, 3, 4);
-    unit(b"units, type unit 2, 0 unit", 110, 2, 4);
-    unit(b"units, type unit 3, 0 unit", 110, 3, 4);
-    unit(b"units, last string at 47, 0 unit", 60, 47, 4);
-    unit(b"units, last string at 47, 0 unit", 60, 47, 0);
-    unit(b"units, last string at 50, 0 unit", 60, 50, 4);
-    unit(b"units, last string at 51, 0 unit", 60, 51, 4);
+fn unit_numbers(rt: &impl Print) -> io::Result<()> {
+    unit(rt, b"units, compile unit 2, 0 unit", 104, 2, 4)?;
+    unit(rt, b"units, compile unit 3, 0 unit", 104, 3, 4)?;
+    unit(rt, b"units, type unit 2, 0 unit", 110, 2, 4)?;
+    unit(rt, b"units, type unit 3, 0 unit", 110, 3, 4)?;
+    unit(rt, b"units, last string at 47, 0 unit", 60, 47, 4)?;
+    unit(rt, b"units, last string at 47, 0 unit", 60, 47, 0)?;
+    unit(rt, b"units, last string at 50, 0 unit", 60, 50, 4)?;
+    unit(rt, b"units, last string at 51, 0 unit", 60, 51, 4)
 }
 
-fn unit(title: &[u8], at: usize, byte: u8, room: usize) {
+fn unit(rt: &impl Print, title: &[u8], at: usize, byte: u8, room: usize) -> io::Result<()> {
     let mut s = sections::UNITS;
     if at < s.len() {
         s[at] = byte;
-        little(title, &s, 0, b"unit", room);
+        little(rt, title, &s, 0, b"unit", room)?;
     }
+    Ok(())
 }
 
 // A third entry whose unit and DIE offset have the wrong forms 0x11 and 0x0b; the DIE offset alone; a type_unit of the wrong form 0x0c; a
 // unit of a wrong form before an unknown form; a code without a declaration; and an entry that is good.
-fn wrong_forms() {
-    form(b"forms, 0 form", 2, 4);
-    form(b"forms, 0 form", 2, 2);
-    form(b"forms, 0 form", 2, 0);
-    form(b"forms, third code 3, 0 form", 3, 4);
-    form(b"forms, third code 3, 0 form", 3, 0);
-    form(b"forms, third code 4, 0 form", 4, 4);
-    form(b"forms, third code 5, 0 form", 5, 4);
-    form(b"forms, third code 6, 0 form", 6, 4);
-    form(b"forms, third code 1, 0 form", 1, 4);
+fn wrong_forms(rt: &impl Print) -> io::Result<()> {
+    form(rt, b"forms, 0 form", 2, 4)?;
+    form(rt, b"forms, 0 form", 2, 2)?;
+    form(rt, b"forms, 0 form", 2, 0)?;
+    form(rt, b"forms, third code 3, 0 form", 3, 4)?;
+    form(rt, b"forms, third code 3, 0 form", 3, 0)?;
+    form(rt, b"forms, third code 4, 0 form", 4, 4)?;
+    form(rt, b"forms, third code 5, 0 form", 5, 4)?;
+    form(rt, b"forms, third code 6, 0 form", 6, 4)?;
+    form(rt, b"forms, third code 1, 0 form", 1, 4)
 }
 
-fn form(title: &[u8], code: u8, room: usize) {
+fn form(rt: &impl Print, title: &[u8], code: u8, room: usize) -> io::Result<()> {
     let mut s = sections::FORMS;
     s[89] = code;
-    little(title, &s, 0, b"form", room);
+    little(rt, title, &s, 0, b"form", room)
 }
 
 // A name in two indexes, of which the second has no hash table.
-fn two_indexes(s: &[u8]) {
-    little(b"two, 7 twin", s, 7, b"twin", 4);
-    little(b"two, 7 twin", s, 7, b"twin", 2);
-    little(b"two, 8 twin", s, 8, b"twin", 4);
-    little(b"two, 7 five", s, 7, b"five", 4);
+fn two_indexes(rt: &impl Print, s: &[u8]) -> io::Result<()> {
+    little(rt, b"two, 7 twin", s, 7, b"twin", 4)?;
+    little(rt, b"two, 7 twin", s, 7, b"twin", 2)?;
+    little(rt, b"two, 8 twin", s, 8, b"twin", 4)?;
+    little(rt, b"two, 7 five", s, 7, b"five", 4)
 }
 
 // The section up to a place: nothing, the first index, and a part of the second.
-fn cut(s: &[u8]) {
+fn cut(rt: &impl Print, s: &[u8]) -> io::Result<()> {
     if s.len() < 178 {
-        return;
+        return Ok(());
     }
-    little(b"two up to 0, 7 twin", &s[0..0], 7, b"twin", 4);
-    little(b"two up to 69, 7 twin", &s[0..69], 7, b"twin", 4);
-    little(b"two up to 71, 7 twin", &s[0..71], 7, b"twin", 4);
-    little(b"two up to 177, 7 twin", &s[0..177], 7, b"twin", 4);
+    little(rt, b"two up to 0, 7 twin", &s[0..0], 7, b"twin", 4)?;
+    little(rt, b"two up to 69, 7 twin", &s[0..69], 7, b"twin", 4)?;
+    little(rt, b"two up to 71, 7 twin", &s[0..71], 7, b"twin", 4)?;
+    little(rt, b"two up to 177, 7 twin", &s[0..177], 7, b"twin", 4)
 }
 
 // Refusals in the second index, after a match in the first: its version, a form of its abbreviations, the entry offset of its last name,
 // and the code of its last entry.
-fn refused_late() {
-    late(b"two, second version 4, 7 twin", 81, 4, 4);
-    late(b"two, second version 4, 7 twin", 81, 4, 1);
-    late(b"two, second version 4, 7 twin", 81, 4, 0);
-    late(b"two, second form 0, 7 twin", 164, 0, 4);
-    late(b"two, last entry offset 11, 7 twin", 153, 11, 4);
-    late(b"two, last code 2, 7 twin", 175, 2, 4);
-    late(b"two, last code 2, 7 twin", 175, 2, 1);
-    late(b"two, last code 2, 7 twin", 175, 2, 0);
+fn refused_late(rt: &impl Print) -> io::Result<()> {
+    late(rt, b"two, second version 4, 7 twin", 81, 4, 4)?;
+    late(rt, b"two, second version 4, 7 twin", 81, 4, 1)?;
+    late(rt, b"two, second version 4, 7 twin", 81, 4, 0)?;
+    late(rt, b"two, second form 0, 7 twin", 164, 0, 4)?;
+    late(rt, b"two, last entry offset 11, 7 twin", 153, 11, 4)?;
+    late(rt, b"two, last code 2, 7 twin", 175, 2, 4)?;
+    late(rt, b"two, last code 2, 7 twin", 175, 2, 1)?;
+    late(rt, b"two, last code 2, 7 twin", 175, 2, 0)
 }
 
-fn late(title: &[u8], at: usize, byte: u8, room: usize) {
+fn late(rt: &impl Print, title: &[u8], at: usize, byte: u8, room: usize) -> io::Result<()> {
     let mut s = sections::TWO;
     if at < s.len() {
         s[at] = byte;
-        little(title, &s, 7, b"twin", room);
+        little(rt, title, &s, 7, b"twin", room)?;
     }
+    Ok(())
 }
 
 // The big-endian indexes: a foreign type unit, the default unit, none for C = 0, and a local type unit.
-fn big_endian(s: &[u8]) {
+fn big_endian(rt: &impl Print, s: &[u8]) -> io::Result<()> {
     let strings = sections::STRINGS;
     let order = RunTimeEndian::Big;
-    ask(b"big, 7 twin", order, s, &strings, 7, b"twin", 4);
-    ask(b"big, 6 three", order, s, &strings, 6, b"three", 4);
-    ask(b"big, 7 three", order, s, &strings, 7, b"three", 4);
+    ask(rt, b"big, 7 twin", order, s, &strings, 7, b"twin", 4)?;
+    ask(rt, b"big, 6 three", order, s, &strings, 6, b"three", 4)?;
+    ask(rt, b"big, 7 three", order, s, &strings, 7, b"three", 4)?;
     let mut changed = sections::BIG;
     changed[133] = 0;
     ask(
+        rt,
         b"big, type unit 0, 6 three",
         order,
         &changed,
@@ -256,13 +307,14 @@ fn big_endian(s: &[u8]) {
         6,
         b"three",
         4,
-    );
+    )
 }
 
 // The other byte order: the first length is too large.
-fn other_orders(two: &[u8], big: &[u8]) {
+fn other_orders(rt: &impl Print, two: &[u8], big: &[u8]) -> io::Result<()> {
     let strings = sections::STRINGS;
     ask(
+        rt,
         b"two, the other byte order, 7 twin",
         RunTimeEndian::Big,
         two,
@@ -270,14 +322,15 @@ fn other_orders(two: &[u8], big: &[u8]) {
         7,
         b"twin",
         4,
-    );
-    little(b"big, the other byte order, 7 twin", big, 7, b"twin", 4);
+    )?;
+    little(rt, b"big, the other byte order, 7 twin", big, 7, b"twin", 4)
 }
 
 // An empty .debug_str: a string at 1 and the empty one at 0 cannot be read; where there is no candidate none is read.
-fn no_strings(s: &[u8]) {
+fn no_strings(rt: &impl Print, s: &[u8]) -> io::Result<()> {
     let order = RunTimeEndian::Little;
     ask(
+        rt,
         b"series, .debug_str empty, 10 five",
         order,
         s,
@@ -285,8 +338,9 @@ fn no_strings(s: &[u8]) {
         10,
         b"five",
         4,
-    );
+    )?;
     ask(
+        rt,
         b"series, .debug_str empty, 14 the empty name",
         order,
         s,
@@ -294,8 +348,9 @@ fn no_strings(s: &[u8]) {
         14,
         b"",
         4,
-    );
+    )?;
     ask(
+        rt,
         b"series, .debug_str empty, 6 five",
         order,
         s,
@@ -303,13 +358,13 @@ fn no_strings(s: &[u8]) {
         6,
         b"five",
         4,
-    );
+    )
 }
 
 // Entries with both attributes of units: the text at the start of the bytes.
-fn split_units(text: &[u8], len: usize) {
+fn split_units(rt: &impl Print, text: &[u8], len: usize) -> io::Result<()> {
     if text.len() < len {
-        return;
+        return Ok(());
     }
-    split::lines(&text[0..len]);
+    split::lines(rt, &text[0..len])
 }

@@ -6,6 +6,7 @@
 // begins with # is a remark, and an empty one is passed over.
 use crate::ask::little;
 use crate::sections::SPLIT;
+use std::io;
 
 // The section, and of the change that is being read the place, and the number that is not finished.
 #[derive(Clone, Copy)]
@@ -39,33 +40,41 @@ impl Changed {
 }
 
 // The cases of a text.
-pub fn lines(text: &[u8]) {
+pub fn lines(rt: &impl Print, text: &[u8]) -> io::Result<()> {
     let mut from = 0;
     for at in 0..text.len() {
         if from <= at && text[at] == b'\n' {
-            case(&text[from..at]);
+            case(rt, &text[from..at])?;
             from = at + 1;
         }
     }
+    Ok(())
 }
 
-fn case(line: &[u8]) {
+fn case(rt: &impl Print, line: &[u8]) -> io::Result<()> {
     if line.len() == 0 {
-        return;
+        return Ok(());
     }
     if line[0] == b'#' {
-        return;
+        return Ok(());
     }
     let comma = first(line, b',');
     let semicolon = first(line, b';');
     if line.len() < comma {
-        return;
+        return Ok(());
     }
     if line.len() < semicolon {
-        return;
+        return Ok(());
     }
     let section = section(line, semicolon);
-    little(&line[0..semicolon], &section.bytes, 0, &line[0..comma], 4);
+    little(
+        rt,
+        &line[0..semicolon],
+        &section.bytes,
+        0,
+        &line[0..comma],
+        4,
+    )
 }
 
 // The first place of a byte in a line, or the line's end.
