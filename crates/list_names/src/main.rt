@@ -2,6 +2,8 @@
 // stdout beside src/ are document 01's case A and its listing.
 #![tactic(auto)]
 
-fn main() {
-    printing::list_input();
+use std::io;
+
+fn main(rt: HostRuntime) -> io::Result<()> {
+    printing::list_input(&rt)
 }

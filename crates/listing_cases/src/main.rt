@@ -3,7 +3,7 @@
 // filled up with zeros. The file stdout is worked out by hand from document 01.
 #![tactic(auto)]
 
-use libc::STDOUT_FILENO;
+use std::io;
 
 // Case A, as document 01 has it: header, unit, starts, hashes, strings, entry offsets, abbreviations and pool.
 const CASE_A: [u8; 109] = *b"\x69\x00\x00\x00\x05\x00\x00\x00\x01\x00\x00\x00\x00\x00\x00\x00\
@@ -34,72 +34,82 @@ const TWO: [u8; 162] = *b"\x31\x00\x00\x00\x05\x00\x00\x00\x01\x00\x00\x00\x00\x
     \x01\x2e\x03\x13\x00\x00\x00\
     \x01\x10\x00\x00\x00\x00\x01\x20\x00\x00\x00\x00\x01\x30\x00\x00\x00\x00";
 
-fn main() {
-    changed(b"case A\n", 0, 105);
-    changed(b"length 106: the part is missing at 4\n", 0, 106);
-    changed(b"version 4\n", 4, 4);
-    changed(b"C 200: the units do not fit\n", 8, 200);
-    changed(b"N 200: the hashes do not fit\n", 24, 200);
-    changed(b"the form of the attribute is 0\n", 87, 0);
-    changed(b"second start 3\n", 44, 3);
-    changed(b"second start 4\n", 44, 4);
-    changed(b"second start 5\n", 44, 5);
-    changed(b"an unknown form\n", 87, 1);
-    changed(b"entry offset of name 1 past the pool\n", 76, 19);
-    changed(b"entry offset of name 1 at the pool's end\n", 76, 18);
-    changed(b"name 2 has the entry of name 1\n", 80, 6);
-    changed(b"the second entry has another code\n", 97, 9);
-    changed(b"no code 0 after the first entry\n", 96, 1);
-    changed_twice(b"version 4, and C 200\n", 4, 4, 8, 200);
-    changed_twice(b"the form is 0, and second start 5\n", 87, 0, 44, 5);
-    changed_twice(b"second start 5, and an unknown form\n", 44, 5, 87, 1);
-    two(b"no hash table, and case A behind it\n", 0, 49);
-    two(b"version 4 in the second index\n", 57, 4);
-    two(b"second start 5 in the second index\n", 97, 5);
-    two(b"an entry offset past the pool in it\n", 129, 19);
-    empty(b"nothing\n");
-    input(b"65,536 bytes on standard input\n");
+fn main(rt: HostRuntime) -> io::Result<()> {
+    changed(&rt, b"case A\n", 0, 105)?;
+    changed(&rt, b"length 106: the part is missing at 4\n", 0, 106)?;
+    changed(&rt, b"version 4\n", 4, 4)?;
+    changed(&rt, b"C 200: the units do not fit\n", 8, 200)?;
+    changed(&rt, b"N 200: the hashes do not fit\n", 24, 200)?;
+    changed(&rt, b"the form of the attribute is 0\n", 87, 0)?;
+    changed(&rt, b"second start 3\n", 44, 3)?;
+    changed(&rt, b"second start 4\n", 44, 4)?;
+    changed(&rt, b"second start 5\n", 44, 5)?;
+    changed(&rt, b"an unknown form\n", 87, 1)?;
+    changed(&rt, b"entry offset of name 1 past the pool\n", 76, 19)?;
+    changed(&rt, b"entry offset of name 1 at the pool's end\n", 76, 18)?;
+    changed(&rt, b"name 2 has the entry of name 1\n", 80, 6)?;
+    changed(&rt, b"the second entry has another code\n", 97, 9)?;
+    changed(&rt, b"no code 0 after the first entry\n", 96, 1)?;
+    changed_twice(&rt, b"version 4, and C 200\n", 4, 4, 8, 200)?;
+    changed_twice(&rt, b"the form is 0, and second start 5\n", 87, 0, 44, 5)?;
+    changed_twice(&rt, b"second start 5, and an unknown form\n", 44, 5, 87, 1)?;
+    two(&rt, b"no hash table, and case A behind it\n", 0, 49)?;
+    two(&rt, b"version 4 in the second index\n", 57, 4)?;
+    two(&rt, b"second start 5 in the second index\n", 97, 5)?;
+    two(&rt, b"an entry offset past the pool in it\n", 129, 19)?;
+    empty(&rt, b"nothing\n")?;
+    input(&rt, b"65,536 bytes on standard input\n")
 }
 
 // Case A with one byte changed.
-fn changed(title: &[u8], at: usize, byte: u8) {
+fn changed(rt: &impl Print, title: &[u8], at: usize, byte: u8) -> io::Result<()> {
     let mut s = CASE_A;
-    io::write_all(STDOUT_FILENO, title);
+    rt.write_all(title)?;
     if at < s.len() {
         s[at] = byte;
-        printing::print_listing(&s);
+        printing::print_listing(rt, &s)?;
     }
+    Ok(())
 }
 
 // Case A with two bytes changed.
-fn changed_twice(title: &[u8], at: usize, byte: u8, other: usize, its_byte: u8) {
+fn changed_twice(
+    rt: &impl Print,
+    title: &[u8],
+    at: usize,
+    byte: u8,
+    other: usize,
+    its_byte: u8,
+) -> io::Result<()> {
     let mut s = CASE_A;
-    io::write_all(STDOUT_FILENO, title);
+    rt.write_all(title)?;
     if at < s.len() && other < s.len() {
         s[at] = byte;
         s[other] = its_byte;
-        printing::print_listing(&s);
+        printing::print_listing(rt, &s)?;
     }
+    Ok(())
 }
 
 // The two indexes with one byte changed.
-fn two(title: &[u8], at: usize, byte: u8) {
+fn two(rt: &impl Print, title: &[u8], at: usize, byte: u8) -> io::Result<()> {
     let mut s = TWO;
-    io::write_all(STDOUT_FILENO, title);
+    rt.write_all(title)?;
     if at < s.len() {
         s[at] = byte;
-        printing::print_listing(&s);
+        printing::print_listing(rt, &s)?;
     }
+    Ok(())
 }
 
 // A section of no bytes.
-fn empty(title: &[u8]) {
-    io::write_all(STDOUT_FILENO, title);
-    printing::print_listing(&CASE_A[0..0]);
+fn empty(rt: &impl Print, title: &[u8]) -> io::Result<()> {
+    rt.write_all(title)?;
+    printing::print_listing(rt, &CASE_A[0..0])
 }
 
 // The section on standard input.
-fn input(title: &[u8]) {
-    io::write_all(STDOUT_FILENO, title);
-    printing::list_input();
+fn input(rt: &(impl Print + Input), title: &[u8]) -> io::Result<()> {
+    rt.write_all(title)?;
+    printing::list_input(rt)
 }

@@ -2,6 +2,8 @@
 // one line "refused 13".
 #![tactic(auto)]
 
-fn main() {
-    printing::list_input();
+use std::io;
+
+fn main(rt: HostRuntime) -> io::Result<()> {
+    printing::list_input(&rt)
 }

@@ -1,18 +1,19 @@
 // Parts of a line.
+use std::io;
 
 // A number, after a space.
-pub fn number(n: u64) {
-    show::text(b" ");
-    show::decimal(n);
+pub fn number(rt: &impl Print, n: u64) -> io::Result<()> {
+    show::text(rt, b" ")?;
+    show::decimal(rt, n)
 }
 
 // The end of a line.
-pub fn end() {
-    show::text(b"\n");
+pub fn end(rt: &impl Print) -> io::Result<()> {
+    show::text(rt, b"\n")
 }
 
 // The last number of a line.
-pub fn answered(n: u64) {
-    number(n);
-    end();
+pub fn answered(rt: &impl Print, n: u64) -> io::Result<()> {
+    number(rt, n)?;
+    end(rt)
 }

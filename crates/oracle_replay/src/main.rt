@@ -17,8 +17,9 @@ mod table; // the abbreviations by code
 mod tally; // how many lines of each call, and refusals, there are
 mod units; // counts and units
 
-use libc::STDIN_FILENO;
 use reader::{RunTimeEndian, U8Read, U16Read, read_u8, read_u16};
+use standard_input::read_full;
+use std::io;
 use tally::Tally;
 
 // The byte order of a section, and the two lengths.
@@ -29,56 +30,57 @@ struct Head {
     strings: usize,
 }
 
-fn main() {
+fn main(rt: HostRuntime) -> io::Result<()> {
     let mut tally = [0; 43];
-    replay(count(), &mut tally);
-    tally::totals(&tally);
+    replay(&rt, count(&rt)?, &mut tally)?;
+    tally::totals(&rt, &tally)
 }
 
 // How many sections there are.
-fn count() -> usize {
+fn count(rt: &impl Input) -> io::Result<usize> {
     let mut bytes = [0; 2];
-    io::read_full(STDIN_FILENO, &mut bytes);
-    two_bytes(&bytes, 0)
+    read_full(rt, &mut bytes)?;
+    Ok(two_bytes(&bytes, 0))
 }
 
 // Answers each section in turn, up to the first that is cut short.
-fn replay(count: usize, t: &mut Tally) {
+fn replay(rt: &(impl Print + Input), count: usize, t: &mut Tally) -> io::Result<()> {
     for number in 0..count {
-        if !one(number, t) {
-            return;
+        if !one(rt, number, t)? {
+            return Ok(());
         }
     }
+    Ok(())
 }
 
 // Reads the next section and answers it. It says whether the section was whole.
-fn one(number: usize, t: &mut Tally) -> bool {
-    let mut names = io::buffer();
-    let mut strings = io::buffer();
-    show::text(b"section");
-    line::answered(number as u64);
+fn one(rt: &(impl Print + Input), number: usize, t: &mut Tally) -> io::Result<bool> {
+    let mut names = [0; 4096];
+    let mut strings = [0; 4096];
+    show::text(rt, b"section")?;
+    line::answered(rt, number as u64)?;
     tally::add(t, tally::SECTIONS);
-    let head = read_head();
+    let head = read_head(rt)?;
     let order = head.order;
-    if !fill(&mut names, head.names) {
-        return cut_short();
+    if !fill(rt, &mut names, head.names)? {
+        return cut_short(rt);
     }
-    if !fill(&mut strings, head.strings) {
-        return cut_short();
+    if !fill(rt, &mut strings, head.strings)? {
+        return cut_short(rt);
     }
-    answer(order, &names, head.names, &strings, head.strings, t)
+    answer(rt, order, &names, head.names, &strings, head.strings, t)
 }
 
-fn cut_short() -> bool {
-    show::text(b"cut short\n");
-    false
+fn cut_short(rt: &impl Print) -> io::Result<bool> {
+    show::text(rt, b"cut short\n")?;
+    Ok(false)
 }
 
 // What stands before a section.
-fn read_head() -> Head {
+fn read_head(rt: &impl Input) -> io::Result<Head> {
     let mut bytes = [0; 5];
-    io::read_full(STDIN_FILENO, &mut bytes);
-    head_of(&bytes)
+    read_full(rt, &mut bytes)?;
+    Ok(head_of(&bytes))
 }
 
 fn head_of(s: &[u8]) -> Head {
@@ -111,29 +113,30 @@ fn two_bytes(s: &[u8], at: usize) -> usize {
 }
 
 // Reads that many bytes to the start of a buffer. It says whether all of them were there.
-fn fill(buffer: &mut [u8], len: usize) -> bool {
+fn fill(rt: &impl Input, buffer: &mut [u8], len: usize) -> io::Result<bool> {
     if len <= buffer.len() {
-        return io::read_full(STDIN_FILENO, &mut buffer[0..len]) == len;
+        return Ok(read_full(rt, &mut buffer[0..len])? == len);
     }
-    false
+    Ok(false)
 }
 
 // Answers the section that stands at the start of the buffers.
 fn answer(
+    rt: &impl Print,
     order: RunTimeEndian,
     names: &[u8],
     n: usize,
     strings: &[u8],
     m: usize,
     t: &mut Tally,
-) -> bool {
+) -> io::Result<bool> {
     if names.len() < n {
-        return cut_short();
+        return cut_short(rt);
     }
     if strings.len() < m {
-        return cut_short();
+        return cut_short(rt);
     }
-    header_steps::headers(order, &names[0..n], &strings[0..m], t);
-    queries::ask(order, &names[0..n], &strings[0..m], 0, 0, 0, t);
-    true
+    header_steps::headers(rt, order, &names[0..n], &strings[0..m], t)?;
+    queries::ask(rt, order, &names[0..n], &strings[0..m], 0, 0, 0, t)?;
+    Ok(true)
 }

@@ -6,26 +6,35 @@ use names::{
     NameTableIter, NameTableStep, StrOffsetRead, name_count, name_string, name_string_offset,
 };
 use reader::{NameTableIndex, RunTimeEndian};
+use std::io;
 use strings::StrRead;
 
 // The numbers of the names on one line; then two lines for each name, and for two numbers past the last.
-pub fn strings(order: RunTimeEndian, s: &[u8], strings: &[u8], index: NameIndex, t: &mut Tally) {
-    tally::call(t, tally::NAMES);
-    numbers(s, index, t);
-    line::end();
-    each(order, s, strings, index, t);
+pub fn strings(
+    rt: &impl Print,
+    order: RunTimeEndian,
+    s: &[u8],
+    strings: &[u8],
+    index: NameIndex,
+    t: &mut Tally,
+) -> io::Result<()> {
+    tally::call(rt, t, tally::NAMES)?;
+    numbers(rt, s, index, t)?;
+    line::end(rt)?;
+    each(rt, order, s, strings, index, t)
 }
 
 // Steps over the names, up to the end and at most 40.
-fn numbers(s: &[u8], index: NameIndex, t: &mut Tally) {
+fn numbers(rt: &impl Print, s: &[u8], index: NameIndex, t: &mut Tally) -> io::Result<()> {
     let mut at = first();
     while at < 40 {
-        let next = step(s, index, at, t);
+        let next = step(rt, s, index, at, t)?;
         if next <= at {
-            return;
+            return Ok(());
         }
         at = next;
     }
+    Ok(())
 }
 
 // The number at which the cursor before the first name stands.
@@ -40,63 +49,74 @@ fn place(cursor: NameTableIter) -> u32 {
 }
 
 // A step of the cursor that stands at a number, and where the cursor stands after it.
-fn step(s: &[u8], index: NameIndex, at: u32, t: &mut Tally) -> u32 {
+fn step(rt: &impl Print, s: &[u8], index: NameIndex, at: u32, t: &mut Tally) -> io::Result<u32> {
     let cursor = NameTableIter {
         name_table_index: NameTableIndex(at),
     };
     match cursor.next(s, index) {
-        NameTableStep::End(c) => place(c),
+        NameTableStep::End(c) => Ok(place(c)),
         NameTableStep::Name(name, c) => {
-            line::number(name.0 as u64);
-            place(c)
+            line::number(rt, name.0 as u64)?;
+            Ok(place(c))
         }
         NameTableStep::Refused(e, c) => {
-            tally::refused(t, e);
-            place(c)
+            tally::refused(rt, t, e)?;
+            Ok(place(c))
         }
     }
 }
 
 // The names by their numbers.
-fn each(order: RunTimeEndian, s: &[u8], strings: &[u8], index: NameIndex, t: &mut Tally) {
+fn each(
+    rt: &impl Print,
+    order: RunTimeEndian,
+    s: &[u8],
+    strings: &[u8],
+    index: NameIndex,
+    t: &mut Tally,
+) -> io::Result<()> {
     for number in 0..units::asked(name_count(s, index)) {
-        one(order, s, strings, index, number, t);
+        one(rt, order, s, strings, index, number, t)?;
     }
+    Ok(())
 }
 
 fn one(
+    rt: &impl Print,
     order: RunTimeEndian,
     s: &[u8],
     strings: &[u8],
     index: NameIndex,
     number: u32,
     t: &mut Tally,
-) {
-    tally::call_of(t, tally::STRING_OFFSET, number as u64);
+) -> io::Result<()> {
+    tally::call_of(rt, t, tally::STRING_OFFSET, number as u64)?;
     offset(
+        rt,
         name_string_offset(order, s, index, NameTableIndex(number)),
         t,
-    );
-    tally::call_of(t, tally::STRING, number as u64);
+    )?;
+    tally::call_of(rt, t, tally::STRING, number as u64)?;
     string(
+        rt,
         name_string(order, s, strings, index, NameTableIndex(number)),
         t,
-    );
+    )
 }
 
-fn offset(r: StrOffsetRead, t: &mut Tally) {
+fn offset(rt: &impl Print, r: StrOffsetRead, t: &mut Tally) -> io::Result<()> {
     match r {
-        StrOffsetRead::Value(o) => line::answered(o.0 as u64),
-        StrOffsetRead::Refused(e) => tally::refused(t, e),
+        StrOffsetRead::Value(o) => line::answered(rt, o.0 as u64),
+        StrOffsetRead::Refused(e) => tally::refused(rt, t, e),
     }
 }
 
-fn string(r: StrRead, t: &mut Tally) {
+fn string(rt: &impl Print, r: StrRead, t: &mut Tally) -> io::Result<()> {
     match r {
         StrRead::Value(v) => {
-            line::number(v.start as u64);
-            line::answered(v.len as u64)
+            line::number(rt, v.start as u64)?;
+            line::answered(rt, v.len as u64)
         }
-        StrRead::Refused(e) => tally::refused(t, e),
+        StrRead::Refused(e) => tally::refused(rt, t, e),
     }
 }

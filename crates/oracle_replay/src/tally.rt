@@ -1,6 +1,7 @@
 // How many sections, refusals of each number, and lines of each call were written; the last lines say it.
 use crate::line;
 use reader::Error;
+use std::io;
 
 // The sections are counted at 0, the refusals at their numbers, which are at most 14, and the calls from 15 on.
 pub type Tally = [u64; 43];
@@ -72,83 +73,86 @@ pub fn add(t: &mut Tally, place: usize) {
 }
 
 // The first word of a line, by which the line is counted.
-pub fn call(t: &mut Tally, place: usize) {
+pub fn call(rt: &impl Print, t: &mut Tally, place: usize) -> io::Result<()> {
     add(t, place);
-    word(place);
+    word(rt, place)
 }
 
 // The same with the number that the call was given.
-pub fn call_of(t: &mut Tally, place: usize, argument: u64) {
-    call(t, place);
-    line::number(argument);
+pub fn call_of(rt: &impl Print, t: &mut Tally, place: usize, argument: u64) -> io::Result<()> {
+    call(rt, t, place)?;
+    line::number(rt, argument)
 }
 
 // A refusal, at the end of a line.
-pub fn refused(t: &mut Tally, e: Error) {
+pub fn refused(rt: &impl Print, t: &mut Tally, e: Error) -> io::Result<()> {
     add(t, e.number() as usize);
-    show::refused(e);
+    show::refused(rt, e)
 }
 
 // The last lines.
-pub fn totals(t: &Tally) {
-    show::text(b"sections");
-    total(t, SECTIONS);
-    refusals(t);
-    calls(t);
+pub fn totals(rt: &impl Print, t: &Tally) -> io::Result<()> {
+    show::text(rt, b"sections")?;
+    total(rt, t, SECTIONS)?;
+    refusals(rt, t)?;
+    calls(rt, t)
 }
 
-fn refusals(t: &Tally) {
+fn refusals(rt: &impl Print, t: &Tally) -> io::Result<()> {
     for number in 1..13 {
-        show::text(b"refused");
-        line::number(number as u64);
-        total(t, number);
+        show::text(rt, b"refused")?;
+        line::number(rt, number as u64)?;
+        total(rt, t, number)?;
     }
+    Ok(())
 }
 
-fn calls(t: &Tally) {
+fn calls(rt: &impl Print, t: &Tally) -> io::Result<()> {
     for place in HEADER..43 {
-        word(place);
-        total(t, place);
+        word(rt, place)?;
+        total(rt, t, place)?;
     }
+    Ok(())
 }
 
-fn total(t: &Tally, place: usize) {
+fn total(rt: &impl Print, t: &Tally, place: usize) -> io::Result<()> {
     if place < 43 {
-        line::answered(t[place]);
+        line::answered(rt, t[place])?;
     }
+    Ok(())
 }
 
 // The name of a call.
-fn word(place: usize) {
+fn word(rt: &impl Print, place: usize) -> io::Result<()> {
     match place {
-        HEADER => show::text(b"header"),
-        END => show::text(b"end"),
-        INDEX => show::text(b"index"),
-        COUNTS => show::text(b"counts"),
-        COMPILE_UNIT => show::text(b"compile_unit"),
-        LOCAL_TYPE_UNIT => show::text(b"local_type_unit"),
-        FOREIGN_TYPE_UNIT => show::text(b"foreign_type_unit"),
-        TYPE_UNIT => show::text(b"type_unit"),
-        DEFAULT_COMPILE_UNIT => show::text(b"default_compile_unit"),
-        NAMES => show::text(b"names"),
-        STRING_OFFSET => show::text(b"string_offset"),
-        STRING => show::text(b"string"),
-        ABBREVIATION => show::text(b"abbreviation"),
-        FIND_BY_BUCKET => show::text(b"find_by_bucket"),
-        NEXT_IN_BUCKET => show::text(b"next_in_bucket"),
-        FIND_BY_HASH => show::text(b"find_by_hash"),
-        NEXT_OF_HASH => show::text(b"next_of_hash"),
-        TABLE => show::text(b"table"),
-        NAME_ENTRIES => show::text(b"name_entries"),
-        NEXT => show::text(b"next"),
-        NAME_ENTRY => show::text(b"name_entry"),
-        ENTRY_COMPILE_UNIT => show::text(b"entry_compile_unit"),
-        ENTRY_TYPE_UNIT => show::text(b"entry_type_unit"),
-        DIE_OFFSET => show::text(b"die_offset"),
-        PARENT => show::text(b"parent"),
-        TYPE_HASH => show::text(b"type_hash"),
-        QUERY => show::text(b"query"),
-        RECORD => show::text(b"record"),
-        _ => {}
+        HEADER => show::text(rt, b"header"),
+        END => show::text(rt, b"end"),
+        INDEX => show::text(rt, b"index"),
+        COUNTS => show::text(rt, b"counts"),
+        COMPILE_UNIT => show::text(rt, b"compile_unit"),
+        LOCAL_TYPE_UNIT => show::text(rt, b"local_type_unit"),
+        FOREIGN_TYPE_UNIT => show::text(rt, b"foreign_type_unit"),
+        TYPE_UNIT => show::text(rt, b"type_unit"),
+        DEFAULT_COMPILE_UNIT => show::text(rt, b"default_compile_unit"),
+        NAMES => show::text(rt, b"names"),
+        STRING_OFFSET => show::text(rt, b"string_offset"),
+        STRING => show::text(rt, b"string"),
+        ABBREVIATION => show::text(rt, b"abbreviation"),
+        FIND_BY_BUCKET => show::text(rt, b"find_by_bucket"),
+        NEXT_IN_BUCKET => show::text(rt, b"next_in_bucket"),
+        FIND_BY_HASH => show::text(rt, b"find_by_hash"),
+        NEXT_OF_HASH => show::text(rt, b"next_of_hash"),
+        TABLE => show::text(rt, b"table"),
+        NAME_ENTRIES => show::text(rt, b"name_entries"),
+        NEXT => show::text(rt, b"next"),
+        NAME_ENTRY => show::text(rt, b"name_entry"),
+        ENTRY_COMPILE_UNIT => show::text(rt, b"entry_compile_unit"),
+        ENTRY_TYPE_UNIT => show::text(rt, b"entry_type_unit"),
+        DIE_OFFSET => show::text(rt, b"die_offset"),
+        PARENT => show::text(rt, b"parent"),
+        TYPE_HASH => show::text(rt, b"type_hash"),
+        QUERY => show::text(rt, b"query"),
+        RECORD => show::text(rt, b"record"),
+        _ => Ok(()),
     }
 }

@@ -9,6 +9,7 @@ use names::{
     local_type_unit_count, name_count, type_unit, type_unit_count,
 };
 use reader::RunTimeEndian;
+use std::io;
 
 // The lists of units.
 #[derive(Clone, Copy)]
@@ -20,42 +21,48 @@ enum Kind {
 }
 
 // The counts, and then the units.
-pub fn units(order: RunTimeEndian, s: &[u8], index: NameIndex, t: &mut Tally) {
-    counts(s, index, t);
+pub fn units(
+    rt: &impl Print,
+    order: RunTimeEndian,
+    s: &[u8],
+    index: NameIndex,
+    t: &mut Tally,
+) -> io::Result<()> {
+    counts(rt, s, index, t)?;
     let compile = compile_unit_count(s, index);
-    list(Kind::Compile, order, s, index, compile, t);
+    list(rt, Kind::Compile, order, s, index, compile, t)?;
     let local = local_type_unit_count(s, index);
-    list(Kind::Local, order, s, index, local, t);
+    list(rt, Kind::Local, order, s, index, local, t)?;
     let foreign = foreign_type_unit_count(s, index);
-    list(Kind::Foreign, order, s, index, foreign, t);
+    list(rt, Kind::Foreign, order, s, index, foreign, t)?;
     let both = type_unit_count(s, index);
-    list(Kind::Type, order, s, index, both, t);
-    default(order, s, index, t);
+    list(rt, Kind::Type, order, s, index, both, t)?;
+    default(rt, order, s, index, t)
 }
 
-fn counts(s: &[u8], index: NameIndex, t: &mut Tally) {
-    tally::call(t, tally::COUNTS);
-    count(compile_unit_count(s, index), t);
-    count(local_type_unit_count(s, index), t);
-    count(foreign_type_unit_count(s, index), t);
-    count(type_unit_count(s, index), t);
-    count(bucket_count(s, index), t);
-    count(name_count(s, index), t);
-    flag(has_hash_table(s, index), t);
-    line::end();
+fn counts(rt: &impl Print, s: &[u8], index: NameIndex, t: &mut Tally) -> io::Result<()> {
+    tally::call(rt, t, tally::COUNTS)?;
+    count(rt, compile_unit_count(s, index), t)?;
+    count(rt, local_type_unit_count(s, index), t)?;
+    count(rt, foreign_type_unit_count(s, index), t)?;
+    count(rt, type_unit_count(s, index), t)?;
+    count(rt, bucket_count(s, index), t)?;
+    count(rt, name_count(s, index), t)?;
+    flag(rt, has_hash_table(s, index), t)?;
+    line::end(rt)
 }
 
-fn count(r: CountRead, t: &mut Tally) {
+fn count(rt: &impl Print, r: CountRead, t: &mut Tally) -> io::Result<()> {
     match r {
-        CountRead::Value(n) => line::number(n as u64),
-        CountRead::Refused(e) => tally::refused(t, e),
+        CountRead::Value(n) => line::number(rt, n as u64),
+        CountRead::Refused(e) => tally::refused(rt, t, e),
     }
 }
 
-fn flag(r: FlagRead, t: &mut Tally) {
+fn flag(rt: &impl Print, r: FlagRead, t: &mut Tally) -> io::Result<()> {
     match r {
-        FlagRead::Value(b) => line::number(bit(b)),
-        FlagRead::Refused(e) => tally::refused(t, e),
+        FlagRead::Value(b) => line::number(rt, bit(b)),
+        FlagRead::Refused(e) => tally::refused(rt, t, e),
     }
 }
 
@@ -77,84 +84,100 @@ fn at_most(n: u32) -> u32 {
 
 // The units of a list, by their numbers.
 fn list(
+    rt: &impl Print,
     kind: Kind,
     order: RunTimeEndian,
     s: &[u8],
     index: NameIndex,
     count: CountRead,
     t: &mut Tally,
-) {
+) -> io::Result<()> {
     for number in 0..asked(count) {
-        unit(kind, order, s, index, number, t);
+        unit(rt, kind, order, s, index, number, t)?;
     }
+    Ok(())
 }
 
-fn unit(kind: Kind, order: RunTimeEndian, s: &[u8], index: NameIndex, number: u32, t: &mut Tally) {
+fn unit(
+    rt: &impl Print,
+    kind: Kind,
+    order: RunTimeEndian,
+    s: &[u8],
+    index: NameIndex,
+    number: u32,
+    t: &mut Tally,
+) -> io::Result<()> {
     match kind {
         Kind::Compile => {
-            tally::call_of(t, tally::COMPILE_UNIT, number as u64);
-            offset(compile_unit(order, s, index, number), t)
+            tally::call_of(rt, t, tally::COMPILE_UNIT, number as u64)?;
+            offset(rt, compile_unit(order, s, index, number), t)
         }
         Kind::Local => {
-            tally::call_of(t, tally::LOCAL_TYPE_UNIT, number as u64);
-            offset(local_type_unit(order, s, index, number), t)
+            tally::call_of(rt, t, tally::LOCAL_TYPE_UNIT, number as u64)?;
+            offset(rt, local_type_unit(order, s, index, number), t)
         }
         Kind::Foreign => {
-            tally::call_of(t, tally::FOREIGN_TYPE_UNIT, number as u64);
-            signature(foreign_type_unit(order, s, index, number), t)
+            tally::call_of(rt, t, tally::FOREIGN_TYPE_UNIT, number as u64)?;
+            signature(rt, foreign_type_unit(order, s, index, number), t)
         }
         Kind::Type => {
-            tally::call_of(t, tally::TYPE_UNIT, number as u64);
-            either(type_unit(order, s, index, number), t)
+            tally::call_of(rt, t, tally::TYPE_UNIT, number as u64)?;
+            either(rt, type_unit(order, s, index, number), t)
         }
     }
 }
 
-fn offset(r: UnitRead, t: &mut Tally) {
+fn offset(rt: &impl Print, r: UnitRead, t: &mut Tally) -> io::Result<()> {
     match r {
-        UnitRead::Value(u) => line::answered(u.0 as u64),
-        UnitRead::Refused(e) => tally::refused(t, e),
+        UnitRead::Value(u) => line::answered(rt, u.0 as u64),
+        UnitRead::Refused(e) => tally::refused(rt, t, e),
     }
 }
 
-fn signature(r: SignatureRead, t: &mut Tally) {
+fn signature(rt: &impl Print, r: SignatureRead, t: &mut Tally) -> io::Result<()> {
     match r {
-        SignatureRead::Value(v) => line::answered(v.0),
-        SignatureRead::Refused(e) => tally::refused(t, e),
+        SignatureRead::Value(v) => line::answered(rt, v.0),
+        SignatureRead::Refused(e) => tally::refused(rt, t, e),
     }
 }
 
-fn either(r: TypeUnitRead, t: &mut Tally) {
+fn either(rt: &impl Print, r: TypeUnitRead, t: &mut Tally) -> io::Result<()> {
     match r {
-        TypeUnitRead::Value(u) => type_unit_line(u),
-        TypeUnitRead::Refused(e) => tally::refused(t, e),
+        TypeUnitRead::Value(u) => type_unit_line(rt, u),
+        TypeUnitRead::Refused(e) => tally::refused(rt, t, e),
     }
 }
 
-pub fn type_unit_line(u: NameTypeUnit) {
+pub fn type_unit_line(rt: &impl Print, u: NameTypeUnit) -> io::Result<()> {
     match u {
         NameTypeUnit::Local(o) => {
-            show::text(b" local");
-            line::answered(o.0 as u64)
+            show::text(rt, b" local")?;
+            line::answered(rt, o.0 as u64)
         }
         NameTypeUnit::Foreign(v) => {
-            show::text(b" foreign");
-            line::answered(v.0)
+            show::text(rt, b" foreign")?;
+            line::answered(rt, v.0)
         }
     }
 }
 
-fn default(order: RunTimeEndian, s: &[u8], index: NameIndex, t: &mut Tally) {
-    tally::call(t, tally::DEFAULT_COMPILE_UNIT);
+fn default(
+    rt: &impl Print,
+    order: RunTimeEndian,
+    s: &[u8],
+    index: NameIndex,
+    t: &mut Tally,
+) -> io::Result<()> {
+    tally::call(rt, t, tally::DEFAULT_COMPILE_UNIT)?;
     match default_compile_unit(order, s, index) {
-        DefaultUnitRead::Value(u) => default_line(u),
-        DefaultUnitRead::Refused(e) => tally::refused(t, e),
+        DefaultUnitRead::Value(u) => default_line(rt, u),
+        DefaultUnitRead::Refused(e) => tally::refused(rt, t, e),
     }
 }
 
-fn default_line(u: DefaultUnit) {
+fn default_line(rt: &impl Print, u: DefaultUnit) -> io::Result<()> {
     match u {
-        DefaultUnit::Some(o) => line::answered(o.0 as u64),
-        DefaultUnit::None => show::text(b" -\n"),
+        DefaultUnit::Some(o) => line::answered(rt, o.0 as u64),
+        DefaultUnit::None => show::text(rt, b" -\n"),
     }
 }
