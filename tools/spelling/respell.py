@@ -32,6 +32,7 @@ TAKEN = {
     "bytes-of": "bytes_of_lem",
     "digits_of": "digits_of_lem",
     "entry-step": "entry_step_lem",
+    "examined-from": "examined_from_lem",
     "hash-of-a": "hash_of_a_lem",
     "hash-step": "hash_step_lem",
     "hash-steps-of-a": "hash_steps_of_a_lem",

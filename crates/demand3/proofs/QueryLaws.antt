@@ -1,6 +1,6 @@
 -- Demand 3: a query that is not refused finds what is expected; and the whole. In a complete table the candidates are all names that store
 -- the hash, and without a table all names; so those that match are the matching names, and where all can be counted nothing was left out.
-use Prim.Native.Nat.{ℕ, ◌+◌, ◌-◌, ◌≤◌}
+use Prim.Native.Nat.{ℕ, ◌-◌, ◌≤◌}
 use mathlib.Core.Path.{◌≡◌, refl, sym, ap, ◌∙◌}
 use mathlib.Core.Bool.{Bool, true, false, cond}
 use mathlib.Core.Logic.{inl, inr}

@@ -18,7 +18,6 @@ use Rattle.headers.specs.declared.header.NameIndexHeader.{NameIndexHeader}
 use Rattle.headers.specs.declared.headers.HeaderStep.{HeaderStep}
 use Rattle.headers.specs.Headers.{first_header, header_step}
 use Rattle.headers.specs.Answers.{header_step_of}
-use Rattle.index.specs.declared.layout.NameIndex.{NameIndex}
 use Rattle.index.specs.declared.open.IndexRead.{IndexRead}
 use Rattle.index.specs.Open.{name_index}
 use Rattle.index.specs.Answers.{index_outcome}

@@ -1,12 +1,11 @@
 -- Entries and their five facts, as they are handed over: document 01, "Entries and attributes". `s` is the section.
 use Rattle.std.specs.Prelude.{ℕ, List}
 use Rattle.std.proofs.Math.Option.{Option, some, none}
-use Rattle.reader.specs.Outcome.{Outcome, answered, refused, ◌>>=◌}
+use Rattle.reader.specs.Outcome.{Outcome, answered, refused}
 use Rattle.reader.specs.Steps.{Step}
 use Rattle.reader.specs.declared.endianity.RunTimeEndian.{RunTimeEndian}
 use Rattle.reader.specs.declared.common.NameEntryOffset.{NameEntryOffset}
 use Rattle.index.specs.declared.layout.NameIndex.{NameIndex}
-use Rattle.names.specs.declared.units.NameTypeUnit.{NameTypeUnit}
 use Rattle.attributes.specs.declared.attribute.DieOffset.{DieOffset}
 use Rattle.attributes.specs.declared.attribute.EntryParent.{EntryParent}
 use Rattle.attributes.specs.declared.attribute.TypeHash.{TypeHash}

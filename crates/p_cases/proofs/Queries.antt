@@ -47,7 +47,7 @@ use Rattle.entries.specs.Answers.{entries_outcome}
 use Rattle.tables.specs.declared.TableCheck.{TableCheck}
 use Rattle.p_cases.proofs.CaseA.{steps_of_a_lem, bucket_steps_of_a_lem, hash_of_a_lem, hash_steps_of_a_lem, lent_a}
 use Rattle.p_cases.specs.CaseA.{case_a, strings_a, header_a, index_a, steps_of_a, bucket_steps_of_a, hash_steps_of_a}
-use Rattle.p_cases.specs.Queries.{LookupsInA, AllListedInA, query_of_a, found_in_a, AllOpenA, CompleteA, FoundA, two_indexes, second_header, second_index, opened_two, query_of_two, found_in_two, AllOpenTwo, CompleteTwo, ExpectedTwo, open_a, old, de}
+use Rattle.p_cases.specs.Queries.{LookupsInA, AllListedInA, query_of_a, found_in_a, AllOpenA, CompleteA, FoundA, two_indexes, second_header, second_index, query_of_two, found_in_two, AllOpenTwo, CompleteTwo, ExpectedTwo, open_a, old, de}
 
 first-bucket : bucket_outcome (BucketRead.Value (BucketIter.Some (bucket_cursor 0 0))) ≡ find_by_bucket RunTimeEndian.Little case_a index_a 0
 unfolding case_a index_a find_by_bucket first_name fitted parts place places_from sizes word_bytes hash_bytes longest read_number skipped spelled digits

@@ -1,7 +1,7 @@
 -- Case A's query, and demand 3 on case A: what its first two parts say of it, and for the third, on case A and on a section of two indexes of
 -- which one has no hash table, that what it supposes holds there, and what it says.
 use Rattle.std.specs.Prelude.{ℕ, ◌^◌, ◌<◌, ◌≡◌, List, [], ◌∷◌, ◌++◌, map, length, take, drop}
-use Rattle.reader.specs.Outcome.{Outcome, answered}
+use Rattle.reader.specs.Outcome.{answered}
 use Rattle.reader.specs.declared.endianity.RunTimeEndian.{RunTimeEndian}
 use Rattle.reader.specs.declared.common.Format.{Format}
 use Rattle.headers.specs.declared.header.Augmentation.{Augmentation}

@@ -1,6 +1,6 @@
 -- The listing as text: case A's, byte for byte as document 01 has it, that of an empty section, and that of a section which is refused; and the steps
 -- that a program makes over an empty section, so that `TextListed`, which supposes such steps, speaks of a real case.
-use Rattle.std.specs.Prelude.{ℕ, ◌≡◌, true, false, List, [], ◌∷◌, ◌++◌, replicate}
+use Rattle.std.specs.Prelude.{◌≡◌, true, false, [], ◌∷◌, ◌++◌, replicate}
 use Rattle.listing.specs.Lines.{first_line, ended_at}
 use Rattle.line_text.specs.Text.{bytes}
 use Rattle.listing_text.specs.declared.TextStep.{TextStep}
