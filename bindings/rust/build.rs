@@ -1,6 +1,6 @@
 //! Links libdebug_names.a.
 //!
-//! The environment variable DEBUG_NAMES_LIB names the folder that has it; without it that is `target/staticlib` of the repository.
+//! The environment variable DEBUG_NAMES_LIB names the folder that has it; without it that is `crates/debug_names/out` of the repository.
 
 use std::env;
 use std::path::{Path, PathBuf};
@@ -16,7 +16,7 @@ fn main() {
         println!("cargo::rustc-link-lib=static=debug_names");
     } else {
         println!(
-            "cargo::error=there is no {}: run `rt staticlib debug_names` first, or let DEBUG_NAMES_LIB name its folder",
+            "cargo::error=there is no {}: run `rt lib` in crates/debug_names first, or let DEBUG_NAMES_LIB name its folder",
             library.display()
         );
     }
@@ -26,7 +26,7 @@ fn main() {
 fn folder() -> PathBuf {
     let package = PathBuf::from(env::var_os("CARGO_MANIFEST_DIR").expect("cargo sets this"));
     let named = env::var_os("DEBUG_NAMES_LIB").filter(|name| !name.is_empty());
-    let folder = package.join(named.map_or(PathBuf::from("../../target/staticlib"), PathBuf::from));
+    let folder = package.join(named.map_or(PathBuf::from("../../crates/debug_names/out"), PathBuf::from));
     folder.canonicalize().unwrap_or_else(|_| plain(&folder))
 }
 

@@ -4,7 +4,7 @@
 //! what it is lent, and answers or refuses as its specification says. This crate adds Rust types to them, and [`NameIndex::lost_name`],
 //! which asks two of them. What is proved ends at the library: this crate is tested.
 //!
-//! `rt staticlib debug_names`, run in the repository, makes the library where this crate looks for it. The environment variable
+//! `rt lib`, run in `crates/debug_names`, makes the library where this crate looks for it. The environment variable
 //! DEBUG_NAMES_LIB names another folder that has it.
 //!
 //! ```no_run
