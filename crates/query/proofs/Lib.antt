@@ -1,2 +1,2 @@
--- What the walk of `query` uses.
+-- What the proof of `query` uses.
 pub mod Runs
