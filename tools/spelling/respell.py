@@ -1,7 +1,7 @@
 #!/usr/bin/env python3
 """Brings the repository's own antt names to the spelling of today's Rattle, in place.
 
-usage: python3 tools/spelling/respell.py [--list]      at the top of the repository, once, after /opt/rattle/port/port.py
+usage: python3 tools/spelling/respell.py [--list]      at the top of the repository, once, after the kit's port/port.py
 
 Definitions, lemmas, fields and constructors of specs/ and of the files of lemmas in proofs/ are in snake case: `partEnd` is `part_end`. A dash stays
 where it joins two names (CONTRACT_STYLE.md, "Names"), and is `_` elsewhere. Types, facts and modules keep their capitals. Names of src/ keep their
