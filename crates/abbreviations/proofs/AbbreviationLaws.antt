@@ -1,17 +1,19 @@
 -- Laws of the abbreviation table: pairs and declarations one at a time, with no count of turns, and what each answer tells.
-use Prim.Native.Nat.{ℕ, zero, suc, ◌+◌, ◌-◌, ◌*◌, ◌%◌, ◌/◌, ◌≤◌, ◌<◌}
+use Prim.Native.Nat.{ℕ, zero, suc, ◌+◌, ◌-◌, ◌≤◌, ◌<◌}
 use mathlib.Core.Path.{◌≡◌, refl, sym, ap, ◌∙◌}
 use mathlib.Core.Bool.{Bool, true, false, false≢true, cond}
 use mathlib.Core.Logic.{◌⊎◌, inl, inr}
 use mathlib.Core.List.{List, []}
-use mathlib.Core.Option.{Option, some, none, none-ne-some, some-injective}
+use Rattle.std.specs.Prelude.{Option, Some, None}
+use Rattle.reader.proofs.OutcomeLaws.{none-ne-some, some-injective}
 use native.Mathlib.Omega.{arith}
 use lib.Dec.{ltb, eqb}
 use lib.Seq.{slice}
 use borrow.Author.Tests.{eq-eqb, ne_eqb, eqb-true, le-ltb, ltb-true, ltb-false}
 use Rattle.reader.specs.Outcome.{Outcome, answered, refused, ◌>>=◌, demand, refuse_if}
 use Rattle.reader.specs.Parts.{part_end, left_at, Forward}
-use Rattle.reader.specs.Numbers.{Read, read_byte}
+use Rattle.reader.specs.Numbers.{read_byte}
+use Rattle.reader.specs.declared.reader.Read.{Read}
 use Rattle.leb128.specs.Leb128.{leb128, unsigned_limit, u16_limit}
 use Rattle.reader.specs.Listing.{listed, listing, Advances}
 use Rattle.reader.proofs.OutcomeLaws.{refused-answered, same_answer, bind_answered, then_answered, bind_both, cond_is}
@@ -21,18 +23,19 @@ use Rattle.leb128.proofs.Leb128Laws.{leb128-forward, leb128_none, leb128_part}
 use Rattle.leb128.proofs.Leb128Limits.{unsigned-one, u16-one}
 use Rattle.reader.proofs.ListingLaws.{listing_step, listing_agree}
 use Rattle.abbreviations.specs.declared.NameAbbreviation.{NameAbbreviation}
-use Rattle.abbreviations.specs.declared.Abbreviation.{Abbreviation}
+use Rattle.abbreviations.specs.declared.ReadAttribute.{ReadAttribute}
+use Rattle.abbreviations.specs.declared.Head.{Head}
 use Rattle.abbreviations.specs.Sanity.{TablesUnfold, DeclarationsForward, DeclarationsRead, FoundInTable, TablesInPart}
-use Rattle.abbreviations.specs.Abbreviations.{short_pair, is_short, Pair, pair, Attributes, before, attributes_in, attributes, attributes_end, Head, head, Declaration, with_attributes, declaration, table, ending, parsed, find, handed, handed_out, handed_on, found, declared}
+use Rattle.abbreviations.specs.Abbreviations.{short_pair, pair, Attributes, before, attributes_in, attributes, attributes_end, head, Declaration, with_attributes, declaration, table, ending, parsed, find, handed, handed_out, found, declared}
 
 -- the test of a pair
 abbrev tested : ℕ → ℕ → Outcome (Unit {0})
 tested name form = cond (eqb name 0) (demand (eqb form 0) 5 0) (refuse_if (eqb form 0) 6 0)
 
 -- a pair moves forward, and stays inside its part
-pub pair-forward : (s : List ℕ) (at end : ℕ) (p : Pair) → pair s at end ≡ answered p → Forward s at end p.next
+pub pair_forward : (s : List ℕ) (at end : ℕ) (p : ReadAttribute) → pair s at end ≡ answered p → Forward s at end p.next
 unfolding pair
-pair-forward s at end p e =
+pair_forward s at end p e =
     let (name, read_name, e₁) = bind_answered (leb128 u16_limit s at end) _ p e in
     let (form, read-form, e₂) = bind_answered (leb128 u16_limit s name.next end) _ p e₁ in
     let (u, passes, e₃) = then_answered (tested name.value form.value) _ p e₂ in
@@ -47,135 +50,97 @@ unfolding pair
 pair_none s at end h = rw (leb128_none u16_limit s at end h)
 
 -- What a short pair says: it is of two bytes, and both are 0 or neither is.
-pub record Short (s : List ℕ) (at end : ℕ) : Type 0 where
-  pub a : Read
-  pub b : Read
-  pub first : read_byte s at end ≡ answered a
-  pub second : read_byte s a.next end ≡ answered b
-  pub low : a.value < 128
-  pub high : b.value < 128
-  pub number : short_pair s at end ≡ a.value + 256 * b.value
-  pub passes : tested a.value b.value ≡ answered tt
+pub record Short (s : List ℕ) (at end x y : ℕ) : Type 0 where
+  pub first : read_byte s at end ≡ answered (record { value = x; next = at + 1 })
+  pub second : read_byte s (at + 1) end ≡ answered (record { value = y; next = at + 2 })
+  pub low : x < 128
+  pub high : y < 128
+  pub passes : tested x y ≡ answered tt
+  pub inside : at + 2 ≤ part_end s end
 
-short_is : (s : List ℕ) (at end : ℕ) → (short_pair s at end ≡ 65535 → ⊥) → Short s at end
+short_is : (s : List ℕ) (at end x y : ℕ) → short_pair s at end ≡ Some (x, y) → Short s at end x y
 unfolding short_pair
-short_is s at end some_pair = first_byte (read_byte s at end) refl
+short_is s at end x y given = first_byte (read_byte s at end) refl
   where
     low_byte : (v : ℕ) → ltb 127 v ≡ false → v < 128
     low_byte v e = omega (arith, ltb-false 127 v e)
 
-    first_byte : (o : Outcome Read) → read_byte s at end ≡ o → Short s at end
-    first_byte (refused n v) e = absurd (some_pair (rw e))
+    first_byte : (o : Outcome (Read ℕ)) → read_byte s at end ≡ o → Short s at end x y
+    first_byte (refused n v) e = absurd (none-ne-some _ (rw e at given))
     first_byte (answered a) e = second-byte (read_byte s a.next end) refl
       where
-        second-byte : (o : Outcome Read) → read_byte s a.next end ≡ o → Short s at end
-        second-byte (refused n v) f = absurd (some_pair (rw (e, f)))
+        second-byte : (o : Outcome (Read ℕ)) → read_byte s a.next end ≡ o → Short s at end x y
+        second-byte (refused n v) f = absurd (none-ne-some _ (rw (e, f) at given))
         second-byte (answered b) f = low-bytes (ltb 127 a.value) refl (ltb 127 b.value) refl (eqb a.value 0) refl (eqb b.value 0) refl
           where
-            made : ltb 127 a.value ≡ false → ltb 127 b.value ≡ false → short_pair s at end ≡ a.value + 256 * b.value → tested a.value b.value ≡ answered tt → Short s at end
-            made et eu number passes =
-                record { a = a; b = b; first = e; second = f; low = low_byte a.value et; high = low_byte b.value eu; number = number; passes = passes }
+            made : ltb 127 a.value ≡ false → ltb 127 b.value ≡ false → tested a.value b.value ≡ answered tt → ◌≡◌ {A = ℕ × ℕ} (a.value, b.value) (x, y) → Short s at end x y
+            made et eu passes same =
+                let is_x : a.value ≡ x = ap (λ p. p.0) same in
+                let is_y : b.value ≡ y = ap (λ p. p.1) same in
+                let (here, u, past) = byte-answered s at end a e in
+                let (there, v, beyond) = byte-answered s a.next end b f in
+                let next : b.next ≡ at + 2 = omega (arith, past, beyond) in
+                record {
+                  first = e ∙ rw (is_x, past) refl;
+                  second = rw past at f ∙ rw (is_y, next) refl;
+                  low = rw is_x at (low_byte a.value et);
+                  high = rw is_y at (low_byte b.value eu);
+                  passes = rw (is_x, is_y) at passes;
+                  inside = omega (arith, here, past, there, beyond);
+                }
 
-            low-bytes : (t : Bool) → ltb 127 a.value ≡ t → (u : Bool) → ltb 127 b.value ≡ u → (y : Bool) → eqb a.value 0 ≡ y → (z : Bool) → eqb b.value 0 ≡ z
-                → Short s at end
-            low-bytes true et u eu y ey z ez = absurd (some_pair (rw (e, f, et)))
-            low-bytes false et true eu y ey z ez = absurd (some_pair (rw (e, f, et, eu)))
-            low-bytes false et false eu true ey false ez = absurd (some_pair (rw (e, f, et, eu, ey, ez)))
-            low-bytes false et false eu false ey true ez = absurd (some_pair (rw (e, f, et, eu, ey, ez)))
-            low-bytes false et false eu true ey true ez = made et eu (rw (e, f, et, eu, ey, ez)) (rw (ey, ez))
-            low-bytes false et false eu false ey false ez = made et eu (rw (e, f, et, eu, ey, ez)) (rw (ey, ez))
-
--- two bytes from 1 to 127 are one, and it is not 0
-pub short-some : (s : List ℕ) (at end : ℕ) → is_short s at end ≡ true → (short_pair s at end ≡ 65535 → ⊥) × (short_pair s at end ≡ 0 → ⊥)
-unfolding is_short short_pair
-short-some s at end short = first_byte (read_byte s at end) refl
-  where
-    first_byte : (o : Outcome Read) → read_byte s at end ≡ o → (short_pair s at end ≡ 65535 → ⊥) × (short_pair s at end ≡ 0 → ⊥)
-    first_byte (refused n v) e = absurd (false≢true (rw e at short))
-    first_byte (answered a) e = second-byte (read_byte s a.next end) refl
-      where
-        second-byte : (o : Outcome Read) → read_byte s a.next end ≡ o → (short_pair s at end ≡ 65535 → ⊥) × (short_pair s at end ≡ 0 → ⊥)
-        second-byte (refused n v) f = absurd (false≢true (rw (e, f) at short))
-        second-byte (answered b) f = by_tests (ltb a.value 1) refl (ltb 127 a.value) refl (ltb b.value 1) refl (ltb b.value 128) refl
-          where
-            by_tests : (t : Bool) → ltb a.value 1 ≡ t → (u : Bool) → ltb 127 a.value ≡ u → (y : Bool) → ltb b.value 1 ≡ y → (z : Bool) → ltb b.value 128 ≡ z
-                → (short_pair s at end ≡ 65535 → ⊥) × (short_pair s at end ≡ 0 → ⊥)
-            by_tests true et u eu y ey z ez = absurd (false≢true (rw (e, f, et) at short))
-            by_tests false et true eu y ey z ez = absurd (false≢true (rw (e, f, et, eu) at short))
-            by_tests false et false eu true ey z ez = absurd (false≢true (rw (e, f, et, eu, ey) at short))
-            by_tests false et false eu false ey false ez = absurd (false≢true (rw (e, f, et, eu, ey, ez) at short))
-            by_tests false et false eu false ey true ez =
-                let above-a = ltb-false a.value 1 et in
-                let above-b = ltb-false b.value 1 ey in
-                let below-b = ltb-true b.value 128 ez in
-                let number : short_pair s at end ≡ a.value + 256 * b.value =
-                rw (e, f, eu, le-ltb 127 b.value (omega arith), ne_eqb a.value 0 (λ h. omega (arith, h)), ne_eqb b.value 0 (λ h. omega (arith, h))) in
-                let below-a = ltb-false 127 a.value eu in
-                ((λ h. omega (arith, number, h)), λ h. omega (arith, number, h))
+            low-bytes : (t : Bool) → ltb 127 a.value ≡ t → (u : Bool) → ltb 127 b.value ≡ u → (v : Bool) → eqb a.value 0 ≡ v → (w : Bool) → eqb b.value 0 ≡ w
+                → Short s at end x y
+            low-bytes true et u eu v ev w ew = absurd (none-ne-some _ (rw (e, f, et) at given))
+            low-bytes false et true eu v ev w ew = absurd (none-ne-some _ (rw (e, f, et, eu) at given))
+            low-bytes false et false eu true ev false ew = absurd (none-ne-some _ (rw (e, f, et, eu, ev, ew) at given))
+            low-bytes false et false eu false ev true ew = absurd (none-ne-some _ (rw (e, f, et, eu, ev, ew) at given))
+            low-bytes false et false eu true ev true ew = made et eu (rw (ev, ew) refl) (some-injective _ _ (rw (e, f, et, eu, ev, ew) at given))
+            low-bytes false et false eu false ev false ew = made et eu (rw (ev, ew) refl) (some-injective _ _ (rw (e, f, et, eu, ev, ew) at given))
 
 -- where it ends, inside its part
-pub short-place : (s : List ℕ) (at end : ℕ) → (short_pair s at end ≡ 65535 → ⊥) → (at + 2 ≤ part_end s end)
-short-place s at end some_pair =
-    let two = short_is s at end some_pair in
-    let (here, is-a, past) = byte-answered s at end two.a two.first in
-    let (there, is_b, beyond) = byte-answered s two.a.next end two.b two.second in
-    omega (arith, here, past, there, beyond)
+pub short_place : (s : List ℕ) (at end x y : ℕ) → short_pair s at end ≡ Some (x, y) → at + 2 ≤ part_end s end
+short_place s at end x y given = (short_is s at end x y given).inside
 
 -- it is a pair of name and form
-pub pair-short : (s : List ℕ) (at end : ℕ) → (short_pair s at end ≡ 65535 → ⊥)
-    → pair s at end ≡ answered (record { name = short_pair s at end % 256; form = short_pair s at end / 256; next = at + 2 })
+pub pair_short : (s : List ℕ) (at end x y : ℕ) → short_pair s at end ≡ Some (x, y) → pair s at end ≡ answered (record { name = x; form = y; next = at + 2 })
 unfolding pair
-pair-short s at end some_pair =
-    let two = short_is s at end some_pair in
-    let (here, is-a, past) = byte-answered s at end two.a two.first in
-    let (there, is_b, beyond) = byte-answered s two.a.next end two.b two.second in
-    let name : two.a.value ≡ short_pair s at end % 256 = omega (arith, two.number, two.low) in
-    let form : two.b.value ≡ short_pair s at end / 256 = omega (arith, two.number, two.low) in
-    let next : two.b.next ≡ at + 2 = omega (arith, here, past, there, beyond) in
-    rw (u16-one s at end two.a two.first two.low, u16-one s two.a.next end two.b two.second two.high, two.passes, name, form, next)
+pair_short s at end x y given =
+    let two = short_is s at end x y given in
+    rw (u16-one s at end _ two.first two.low, u16-one s (at + 1) end _ two.second two.high, two.passes)
 
 -- one that is not 0 has no 0
-both_some : (x y : ℕ) → tested x y ≡ answered tt → (x + 256 * y ≡ 0 → ⊥) → (eqb x 0 ≡ false) × (eqb y 0 ≡ false)
-both_some x y passes some-there = by_tests (eqb x 0) refl (eqb y 0) refl
+both_some : (x y : ℕ) → tested x y ≡ answered tt → (x ≡ 0 → ⊥) → eqb y 0 ≡ false
+both_some x y passes some-there = by_test (eqb y 0) refl
   where
-    by_tests : (t : Bool) → eqb x 0 ≡ t → (u : Bool) → eqb y 0 ≡ u → (eqb x 0 ≡ false) × (eqb y 0 ≡ false)
-    by_tests true et true eu = absurd (some-there (omega (arith, eqb-true x 0 et, eqb-true y 0 eu)))
-    by_tests true et false eu = absurd (refused-answered (rw (et, eu) at passes))
-    by_tests false et true eu = absurd (refused-answered (rw (et, eu) at passes))
-    by_tests false et false eu = (et, eu)
+    by_test : (u : Bool) → eqb y 0 ≡ u → eqb y 0 ≡ false
+    by_test true eu = absurd (refused-answered (rw (ne_eqb x 0 some-there, eu) at passes))
+    by_test false eu = eu
 
 -- such a one is a code and a tag
-pub head-short : (s : List ℕ) (at end : ℕ) → (short_pair s at end ≡ 65535 → ⊥) → (short_pair s at end ≡ 0 → ⊥)
-    → head s at end ≡ answered (some (record { code = short_pair s at end % 256; tag = short_pair s at end / 256; next = at + 2 }))
+pub head_short : (s : List ℕ) (at end x y : ℕ) → short_pair s at end ≡ Some (x, y) → (x ≡ 0 → ⊥)
+    → head s at end ≡ answered (Some (record { code = x; tag = y; next = at + 2 }))
 unfolding head
-head-short s at end some_pair not_last =
-    let two = short_is s at end some_pair in
-    let (here, is-a, past) = byte-answered s at end two.a two.first in
-    let (there, is_b, beyond) = byte-answered s two.a.next end two.b two.second in
-    let (code-some, tag-some) = both_some two.a.value two.b.value two.passes (λ e. not_last (two.number ∙ e)) in
-    let code : two.a.value ≡ short_pair s at end % 256 = omega (arith, two.number, two.low) in
-    let tag : two.b.value ≡ short_pair s at end / 256 = omega (arith, two.number, two.low) in
-    let next : two.b.next ≡ at + 2 = omega (arith, past, beyond) in
+head_short s at end x y given not_last =
+    let two = short_is s at end x y given in
+    let inside = two.inside in
     rw (
-      ne_eqb (left_at s at end) 0 (λ e. omega (arith, here, e)),
-      unsigned-one s at end two.a two.first two.low,
-      code-some,
-      u16-one s two.a.next end two.b two.second two.high,
-      tag-some,
-      code,
-      tag,
-      next,
+      ne_eqb (left_at s at end) 0 (λ e. omega (arith, inside, e)),
+      unsigned-one s at end _ two.first two.low,
+      ne_eqb x 0 not_last,
+      u16-one s (at + 1) end _ two.second two.high,
+      both_some x y two.passes not_last,
     )
 
 -- a pair, and what it says of the pairs after it
-abbrev pub with_pair : Outcome Pair → (Pair → Outcome Attributes) → Outcome Attributes
+abbrev pub with_pair : Outcome ReadAttribute → (ReadAttribute → Outcome Attributes) → Outcome Attributes
 with_pair o more = do
   p ← o
   cond (eqb p.name 0) (answered (record { list = []; next = p.next })) (do
     rest ← more p
     answered (before p rest))
 
-with_same : (o : Outcome Pair) (f g : Pair → Outcome Attributes) → ((p : Pair) → o ≡ answered p → f p ≡ g p) → with_pair o f ≡ with_pair o g
+with_same : (o : Outcome ReadAttribute) (f g : ReadAttribute → Outcome Attributes) → ((p : ReadAttribute) → o ≡ answered p → f p ≡ g p) → with_pair o f ≡ with_pair o g
 with_same (answered p) f g h = rw (h p refl)
 with_same (refused n v) f g h = refl
 
@@ -187,7 +152,7 @@ attributes_turns zero (suc j) s at end hk hj = rw (pair_none s at end (omega ari
 attributes_turns (suc k) zero s at end hk hj = rw (pair_none s at end (omega arith))
 attributes_turns (suc k) (suc j) s at end hk hj =
     with_same (pair s at end) _ _ λ p e.
-    let (ahead, inside) = pair-forward s at end p e in
+    let (ahead, inside) = pair_forward s at end p e in
     attributes_turns k j s p.next end (omega arith) (omega arith)
 
 -- the attributes are those of a pair and of the pairs after it
@@ -196,7 +161,7 @@ unfolding attributes attributes_in
 attributes_step s at end =
     attributes_turns (left_at s at end) (suc (left_at s at end)) s at end (omega arith) (omega arith)
     ∙ (with_same (pair s at end) _ _ λ p e.
-    let (ahead, inside) = pair-forward s at end p e in
+    let (ahead, inside) = pair_forward s at end p e in
     attributes_turns (left_at s at end) (left_at s p.next end) s p.next end (omega arith) (omega arith))
 
 -- the place past them, in the order of the code
@@ -206,28 +171,24 @@ pub attributes_end_step : (s : List ℕ) (at end : ℕ) → attributes_end s at 
 unfolding attributes_end
 attributes_end_step s at end = rw (attributes_step s at end) (ends (pair s at end) (λ p. attributes s p.next end))
   where
-    choice : (t : Bool) (p : Pair) (rest : Outcome Attributes)
+    choice : (t : Bool) (p : ReadAttribute) (rest : Outcome Attributes)
         → (cond t (answered (record { list = []; next = p.next })) (rest >>= λ a. answered (before p a)) >>= λ a. answered a.next)
         ≡ cond t (answered p.next) (rest >>= λ a. answered a.next)
     choice true p rest = refl
     choice false p (answered a) = refl
     choice false p (refused n v) = refl
 
-    ends : (o : Outcome Pair) (more : Pair → Outcome Attributes)
+    ends : (o : Outcome ReadAttribute) (more : ReadAttribute → Outcome Attributes)
         → (with_pair o more >>= λ a. answered a.next) ≡ (o >>= λ p. cond (eqb p.name 0) (answered p.next) (more p >>= λ a. answered a.next))
     ends (answered p) more = choice (eqb p.name 0) p (more p)
     ends (refused n v) more = refl
 
 -- past a short pair that is not 0 the pairs go on, and at 0 they end
-pub pairs_on : (s : List ℕ) (at end : ℕ) → (short_pair s at end ≡ 65535 → ⊥) → (short_pair s at end ≡ 0 → ⊥) → attributes_end s at end ≡ attributes_end s (at + 2) end
-pairs_on s at end some_pair not_last =
-    let two = short_is s at end some_pair in
-    let (name-some, form-some) = both_some two.a.value two.b.value two.passes (λ e. not_last (two.number ∙ e)) in
-    let name : two.a.value ≡ short_pair s at end % 256 = omega (arith, two.number, two.low) in
-    attributes_end_step s at end ∙ rw (pair-short s at end some_pair, ← name, name-some)
+pub pairs_on : (s : List ℕ) (at end x y : ℕ) → short_pair s at end ≡ Some (x, y) → (x ≡ 0 → ⊥) → attributes_end s at end ≡ attributes_end s (at + 2) end
+pairs_on s at end x y given not_last = attributes_end_step s at end ∙ rw (pair_short s at end x y given, ne_eqb x 0 not_last)
 
-pub pairs_last : (s : List ℕ) (at end : ℕ) → short_pair s at end ≡ 0 → attributes_end s at end ≡ answered (at + 2)
-pairs_last s at end last = attributes_end_step s at end ∙ rw (pair-short s at end (λ e. omega (arith, last, e)), last)
+pub pairs_last : (s : List ℕ) (at end x y : ℕ) → short_pair s at end ≡ Some (x, y) → x ≡ 0 → attributes_end s at end ≡ answered (at + 2)
+pairs_last s at end x y given last = attributes_end_step s at end ∙ rw (pair_short s at end x y given, eq-eqb x 0 last)
 
 -- they move forward, and stay inside their part
 attributes_forward_in : (k : ℕ) (s : List ℕ) (at end : ℕ) (a : Attributes) → attributes_in k s at end ≡ answered a → Forward s at end a.next
@@ -235,10 +196,10 @@ unfolding attributes_in
 attributes_forward_in zero s at end a e = absurd (refused-answered e)
 attributes_forward_in (suc k) s at end a e =
     let (p, one, rest) = bind_answered (pair s at end) _ a e in
-    let (ahead, inside) = pair-forward s at end p one in
+    let (ahead, inside) = pair_forward s at end p one in
     chosen p (ahead, inside) (attributes_forward_in k s p.next end) (cond_is (eqb p.name 0) _ _ (answered a) rest)
   where
-    chosen : (p : Pair) → Forward s at end p.next → ((b : Attributes) → attributes_in k s p.next end ≡ answered b → Forward s p.next end b.next)
+    chosen : (p : ReadAttribute) → Forward s at end p.next → ((b : Attributes) → attributes_in k s p.next end ≡ answered b → Forward s p.next end b.next)
         → ((eqb p.name 0 ≡ true) × (answered (record { list = []; next = p.next }) ≡ answered a))
         ⊎ ((eqb p.name 0 ≡ false) × ((attributes_in k s p.next end >>= λ rest. answered (before p rest)) ≡ answered a))
         → Forward s at end a.next
@@ -256,19 +217,19 @@ unfolding attributes
 attributes-forward s at end a e = attributes_forward_in (left_at s at end) s at end a e
 
 -- the side of a choice that is not none
-not_none : (h : Head) (t : Bool) (m : Outcome (Option Head)) → cond t (answered none) m ≡ answered (some h) → (t ≡ false) × (m ≡ answered (some h))
+not_none : (h : Head) (t : Bool) (m : Outcome (Option Head)) → cond t (answered None) m ≡ answered (Some h) → (t ≡ false) × (m ≡ answered (Some h))
 not_none h true m e = absurd (none-ne-some _ (same_answer e))
 not_none h false m e = (refl, e)
 
 -- the code and the tag move forward, and stay inside their part
-pub head-forward : (s : List ℕ) (at end : ℕ) (h : Head) → head s at end ≡ answered (some h) → Forward s at end h.next
+pub head-forward : (s : List ℕ) (at end : ℕ) (h : Head) → head s at end ≡ answered (Some h) → Forward s at end h.next
 unfolding head
 head-forward s at end h e =
     let (some_left, e₁) = not_none h (eqb (left_at s at end) 0) _ e in
-    let (code, read-code, e₂) = bind_answered (leb128 unsigned_limit s at end) _ (some h) e₁ in
+    let (code, read-code, e₂) = bind_answered (leb128 unsigned_limit s at end) _ (Some h) e₁ in
     let (not-zero, e₃) = not_none h (eqb code.value 0) _ e₂ in
-    let (tag, read-tag, e₄) = bind_answered (leb128 u16_limit s code.next end) _ (some h) e₃ in
-    let (u, passes, e₅) = then_answered (refuse_if (eqb tag.value 0) 4 0) _ (some h) e₄ in
+    let (tag, read-tag, e₄) = bind_answered (leb128 u16_limit s code.next end) _ (Some h) e₃ in
+    let (u, passes, e₅) = then_answered (refuse_if (eqb tag.value 0) 4 0) _ (Some h) e₄ in
     let past : h.next ≡ tag.next = ap (λ h. h.next) (sym (some-injective _ _ (same_answer e₅))) in
     let (code-ahead, code-Inside) = leb128-forward unsigned_limit s at end code read-code in
     let (tag-ahead, tag-inside) = leb128-forward u16_limit s code.next end tag read-tag in
@@ -278,14 +239,14 @@ head-forward s at end h e =
 pub declaration_read : DeclarationsRead
 unfolding declaration with_attributes
 declaration_read s at end d e =
-    let (o, read_head, rest) = bind_answered (head s at end) _ (some d) e in
+    let (o, read_head, rest) = bind_answered (head s at end) _ (Some d) e in
     by_cases o read_head rest
   where
-    by_cases : (o : Option Head) → head s at end ≡ answered o → with_attributes s end o ≡ answered (some d)
+    by_cases : (o : Option Head) → head s at end ≡ answered o → with_attributes s end o ≡ answered (Some d)
         → (at < d.place) × (attributes s d.place end ≡ answered (record { list = d.attributes; next = d.next }))
-    by_cases none read_head rest = absurd (none-ne-some _ (same_answer rest))
-    by_cases (some h) read_head rest =
-        let (a, read, same) = bind_answered (attributes s h.next end) _ (some d) rest in
+    by_cases None read_head rest = absurd (none-ne-some _ (same_answer rest))
+    by_cases (Some h) read_head rest =
+        let (a, read, same) = bind_answered (attributes s h.next end) _ (Some d) rest in
         let (ahead, inside) = head-forward s at end h read_head in
         rw (sym (some-injective _ _ (same_answer same))) (ahead, read)
 
@@ -296,7 +257,7 @@ declaration-forward s at end d e =
     let (further, inside) = attributes-forward s d.place end _ read in
     (omega arith, omega arith)
 
-none_there : (s : List ℕ) (at end : ℕ) → eqb (left_at s at end) 0 ≡ true → declaration s at end ≡ answered none
+none_there : (s : List ℕ) (at end : ℕ) → eqb (left_at s at end) 0 ≡ true → declaration s at end ≡ answered None
 unfolding declaration head with_attributes
 none_there s at end e = rw e
 
@@ -314,72 +275,81 @@ table_step s at end = listing_step (λ place. declaration s place end) (λ d. d.
 
 -- one declaration, in the order of the code: the place past its pairs stands for them
 unfoldable pub with_end : List ℕ → ℕ → Option Head → Outcome (Option NameAbbreviation)
-with_end s end none = answered none
-with_end s end (some h) = do
+with_end s end None = answered None
+with_end s end (Some h) = do
   next ← attributes_end s h.next end
-  answered (some (record { code = h.code; tag = h.tag; attributes = h.next; next = next }))
+  answered (Some (record { code = h.code; tag = h.tag; attributes = h.next; next = next }))
 
 pub declared_step : (s : List ℕ) (at end : ℕ) → declared s at end ≡ (head s at end >>= with_end s end)
 unfolding declared declaration with_attributes with_end attributes_end
 declared_step s at end = by_cases (head s at end)
   where
     with_place : (h : Head) (o : Outcome Attributes)
-        → ((o >>= λ a. answered (some (record { code = h.code; tag = h.tag; place = h.next; attributes = a.list; next = a.next }))) >>= λ d. answered (handed_on d))
-        ≡ ((o >>= λ a. answered a.next) >>= λ next. answered (some (record { code = h.code; tag = h.tag; attributes = h.next; next = next })))
+        → ((o >>= λ a. answered (Some (record { code = h.code; tag = h.tag; place = h.next; attributes = a.list; next = a.next }))) >>= λ d. answered (handed_out d))
+        ≡ ((o >>= λ a. answered a.next) >>= λ next. answered (Some (record { code = h.code; tag = h.tag; attributes = h.next; next = next })))
     with_place h (answered a) = refl
     with_place h (refused n v) = refl
 
-    by_cases : (o : Outcome (Option Head)) → ((o >>= with_attributes s end) >>= λ d. answered (handed_on d)) ≡ (o >>= with_end s end)
-    by_cases (answered none) = refl
-    by_cases (answered (some h)) = with_place h (attributes s h.next end)
+    by_cases : (o : Outcome (Option Head)) → ((o >>= with_attributes s end) >>= λ d. answered (handed_out d)) ≡ (o >>= with_end s end)
+    by_cases (answered None) = refl
+    by_cases (answered (Some h)) = with_place h (attributes s h.next end)
     by_cases (refused n v) = refl
 
 -- what reading on says, in the order of the code: a declaration decides, or what follows it does
 abbrev pub decide : {B : Type 0} → Outcome (Option NameAbbreviation) → Outcome B → (NameAbbreviation → Outcome B) → Outcome B
-decide (answered none) last more = last
-decide (answered (some d)) last more = more d
+decide (answered None) last more = last
+decide (answered (Some d)) last more = more d
 decide (refused n v) last more = refused n v
 
 -- the search is answered by a declaration or by the table after it
 pub found_step : (code : ℕ) (s : List ℕ) (at end : ℕ)
-    → found code s at end ≡ decide (declared s at end) (answered Abbreviation.NotFound) λ d. cond (eqb d.code code) (answered (Abbreviation.Found d)) (found code s d.next end)
+    → found code s at end ≡ decide (declared s at end) (answered None) λ d. cond (eqb d.code code) (answered (Some d)) (found code s d.next end)
 unfolding found declared find
 found_step code s at end = rw (table_step s at end) (by_cases (declaration s at end))
   where
     chosen : (t : Bool) (d : Declaration) (rest : Outcome (Option Declaration))
-        → (cond t (answered (some d)) rest >>= λ o. answered (handed_out o)) ≡ cond t (answered (Abbreviation.Found (handed d))) (rest >>= λ o. answered (handed_out o))
+        → (cond t (answered (Some d)) rest >>= λ o. answered (handed_out o)) ≡ cond t (answered (Some (handed d))) (rest >>= λ o. answered (handed_out o))
     chosen true d rest = refl
     chosen false d rest = refl
 
     by_cases : (o : Outcome (Option Declaration))
         → (find code (listed o λ d. table s d.next end) >>= λ o. answered (handed_out o))
-        ≡ decide (o >>= λ d. answered (handed_on d)) (answered Abbreviation.NotFound) λ d. cond (eqb d.code code) (answered (Abbreviation.Found d)) (find code (table s d.next end) >>= λ o. answered (handed_out o))
-    by_cases (answered none) = refl
-    by_cases (answered (some d)) = chosen (eqb d.code code) d (find code (table s d.next end))
+        ≡ decide (o >>= λ d. answered (handed_out d)) (answered None) λ d. cond (eqb d.code code) (answered (Some d)) (find code (table s d.next end) >>= λ o. answered (handed_out o))
+    by_cases (answered None) = refl
+    by_cases (answered (Some d)) = chosen (eqb d.code code) d (find code (table s d.next end))
     by_cases (refused n v) = refl
 
+-- a declaration that was read takes at least a byte
+pub declared_forward : (s : List ℕ) (at end : ℕ) (d : NameAbbreviation) → answered (Some d) ≡ declared s at end → Forward s at end d.next
+unfolding declared
+declared_forward s at end d e = let (o, read, same) = bind_answered (declaration s at end) _ (Some d) (sym e) in by_found o read (same_answer same)
+  where
+    by_found : (o : Option Declaration) → declaration s at end ≡ answered o → handed_out o ≡ Some d → Forward s at end d.next
+    by_found None read same = absurd (none-ne-some d same)
+    by_found (Some x) read same = rw (← some-injective (handed x) d same) (declaration-forward s at end x read)
+
 -- no declaration has code 0
-head-code : (s : List ℕ) (at end : ℕ) (h : Head) → head s at end ≡ answered (some h) → eqb h.code 0 ≡ false
+head-code : (s : List ℕ) (at end : ℕ) (h : Head) → head s at end ≡ answered (Some h) → eqb h.code 0 ≡ false
 unfolding head
 head-code s at end h e =
     let (some_left, e₁) = not_none h (eqb (left_at s at end) 0) _ e in
-    let (code, read-code, e₂) = bind_answered (leb128 unsigned_limit s at end) _ (some h) e₁ in
+    let (code, read-code, e₂) = bind_answered (leb128 unsigned_limit s at end) _ (Some h) e₁ in
     let (not-zero, e₃) = not_none h (eqb code.value 0) _ e₂ in
-    let (tag, read-tag, e₄) = bind_answered (leb128 u16_limit s code.next end) _ (some h) e₃ in
-    let (u, passes, e₅) = then_answered (refuse_if (eqb tag.value 0) 4 0) _ (some h) e₄ in
+    let (tag, read-tag, e₄) = bind_answered (leb128 u16_limit s code.next end) _ (Some h) e₃ in
+    let (u, passes, e₅) = then_answered (refuse_if (eqb tag.value 0) 4 0) _ (Some h) e₄ in
     let this : code.value ≡ h.code = ap (λ h. h.code) (some-injective _ _ (same_answer e₅)) in
     rw (sym this) not-zero
 
-code-some : (s : List ℕ) (at end : ℕ) (d : Declaration) → declaration s at end ≡ answered (some d) → eqb d.code 0 ≡ false
+code-some : (s : List ℕ) (at end : ℕ) (d : Declaration) → declaration s at end ≡ answered (Some d) → eqb d.code 0 ≡ false
 unfolding declaration with_attributes
 code-some s at end d e =
-    let (o, read, rest) = bind_answered (head s at end) _ (some d) e in
+    let (o, read, rest) = bind_answered (head s at end) _ (Some d) e in
     by_cases o read rest
   where
-    by_cases : (o : Option Head) → head s at end ≡ answered o → with_attributes s end o ≡ answered (some d) → eqb d.code 0 ≡ false
-    by_cases none read rest = absurd (none-ne-some _ (same_answer rest))
-    by_cases (some h) read rest =
-        let (a, pairs, same) = bind_answered (attributes s h.next end) _ (some d) rest in
+    by_cases : (o : Option Head) → head s at end ≡ answered o → with_attributes s end o ≡ answered (Some d) → eqb d.code 0 ≡ false
+    by_cases None read rest = absurd (none-ne-some _ (same_answer rest))
+    by_cases (Some h) read rest =
+        let (a, pairs, same) = bind_answered (attributes s h.next end) _ (Some d) rest in
         let this : h.code ≡ d.code = ap (λ d. d.code) (some-injective _ _ (same_answer same)) in
         rw (sym this) (head-code s at end h read)
 
@@ -397,32 +367,32 @@ parsed_in (suc turns) s at end = by_cases (declaration s at end) refl (λ next. 
         ≡ ((find 0 (listing (λ place. declaration s place end) (λ d. d.next) turns next) >>= λ d. answered (handed_out d)) >>= λ o. answered tt))
         → ending (listed o λ d. listing (λ place. declaration s place end) (λ d. d.next) turns d.next)
         ≡ ((find 0 (listed o λ d. listing (λ place. declaration s place end) (λ d. d.next) turns d.next) >>= λ d. answered (handed_out d)) >>= λ o. answered tt)
-    by_cases (answered none) read more = refl
-    by_cases (answered (some d)) read more = rw (code-some s at end d read) (more d.next)
+    by_cases (answered None) read more = refl
+    by_cases (answered (Some d)) read more = rw (code-some s at end d read) (more d.next)
     by_cases (refused n v) read more = refl
 
-pub parsed-found : (s : List ℕ) (at end : ℕ) → parsed s at end ≡ (found 0 s at end >>= λ o. answered tt)
+pub parsed_found : (s : List ℕ) (at end : ℕ) → parsed s at end ≡ (found 0 s at end >>= λ o. answered tt)
 unfolding parsed found table
-parsed-found s at end = parsed_in (part_end s end - at) s at end
+parsed_found s at end = parsed_in (part_end s end - at) s at end
 
 -- a declaration that was handed on moves forward, and stays inside its part
-pub declared-forward : (s : List ℕ) (at end : ℕ) (d : NameAbbreviation) → declared s at end ≡ answered (some d) → Forward s at end d.next
+pub declared-forward : (s : List ℕ) (at end : ℕ) (d : NameAbbreviation) → declared s at end ≡ answered (Some d) → Forward s at end d.next
 unfolding declared
 declared-forward s at end d e =
-    let (o, read, same) = bind_answered (declaration s at end) _ (some d) e in
+    let (o, read, same) = bind_answered (declaration s at end) _ (Some d) e in
     whole o read (same_answer same)
   where
-    whole : (o : Option Declaration) → declaration s at end ≡ answered o → handed_on o ≡ some d → Forward s at end d.next
-    whole none read same = absurd (none-ne-some _ same)
-    whole (some f) read same =
+    whole : (o : Option Declaration) → declaration s at end ≡ answered o → handed_out o ≡ Some d → Forward s at end d.next
+    whole None read same = absurd (none-ne-some _ same)
+    whole (Some f) read same =
         let (ahead, inside) = declaration-forward s at end f read in
         let past : d.next ≡ f.next = ap (λ a. a.next) (sym (some-injective _ _ same)) in
         (omega arith, omega arith)
 
 -- a head and the pairs after it move forward
-pub parts-forward : (s : List ℕ) (at end : ℕ) (h : Head) (next : ℕ) → head s at end ≡ answered (some h) → attributes_end s h.next end ≡ answered next → Forward s at end next
+pub parts_forward : (s : List ℕ) (at end : ℕ) (h : Head) (next : ℕ) → head s at end ≡ answered (Some h) → attributes_end s h.next end ≡ answered next → Forward s at end next
 unfolding attributes_end
-parts-forward s at end h next read skipped =
+parts_forward s at end h next read skipped =
     let (ahead, inside) = head-forward s at end h read in
     let (a, pairs, same) = bind_answered (attributes s h.next end) _ next skipped in
     let (further, within) = attributes-forward s h.next end a pairs in
@@ -444,7 +414,7 @@ unfolding attributes_in
 attributes_part_in zero s t at end e = refl
 attributes_part_in (suc k) s t at end e =
     (with_same (pair s at end) _ _ λ p read.
-    let (ahead, inside) = pair-forward s at end p read in
+    let (ahead, inside) = pair_forward s at end p read in
     attributes_part_in k s t p.next end (slice-from s t at p.next end (omega arith) e))
     ∙ ap (λ o. with_pair o λ p. attributes_in k t p.next end) (pair_part s t at end e)
 
@@ -456,7 +426,7 @@ head_part : (s t : List ℕ) (at end : ℕ) → slice at end s ≡ slice at end 
 unfolding head
 head_part s t at end e =
     rw (slice-left s t at end e)
-    (ap (cond (eqb (left_at t at end) 0) (answered none))
+    (ap (cond (eqb (left_at t at end) 0) (answered None))
     (bind_both (leb128 unsigned_limit s at end) (leb128 unsigned_limit t at end) _ _ (leb128_part unsigned_limit s t at end e) λ code read.
     let (ahead, inside) = leb128-forward unsigned_limit s at end code read in
     let rest = slice-from s t at code.next end (omega arith) e in
@@ -467,8 +437,8 @@ unfolding declaration with_attributes
 declaration_part s t at end e = bind_both (head s at end) (head t at end) _ _ (head_part s t at end e) by_cases
   where
     by_cases : (o : Option Head) → head s at end ≡ answered o → with_attributes s end o ≡ with_attributes t end o
-    by_cases none read = refl
-    by_cases (some h) read =
+    by_cases None read = refl
+    by_cases (Some h) read =
         let (ahead, inside) = head-forward s at end h read in
         rw (attributes_part s t h.next end (slice-from s t at h.next end (omega arith) e))
 
@@ -485,26 +455,26 @@ unfolding parsed
 parsed_part s t at end e = rw (table_part s t at end e)
 
 -- what a search finds, by the listing with its turns
-found_in : (turns code : ℕ) (s : List ℕ) (at end : ℕ) (d : Declaration) → find code (listing (λ place. declaration s place end) (λ d. d.next) turns at) ≡ answered (some d)
-    → (d.code ≡ code) × ((place : ℕ) × (declaration s place end ≡ answered (some d)))
+found_in : (turns code : ℕ) (s : List ℕ) (at end : ℕ) (d : Declaration) → find code (listing (λ place. declaration s place end) (λ d. d.next) turns at) ≡ answered (Some d)
+    → (d.code ≡ code) × ((place : ℕ) × (declaration s place end ≡ answered (Some d)))
 unfolding listing find
 found_in zero code s at end d e = absurd (none-ne-some d (same_answer e))
 found_in (suc turns) code s at end d e = by_cases (declaration s at end) refl (λ next. found_in turns code s next end d) e
   where
-    chosen : (t : Bool) (f : Declaration) → eqb f.code code ≡ t → declaration s at end ≡ answered (some f) → (rest : Outcome (Option Declaration))
-        → (rest ≡ answered (some d) → (d.code ≡ code) × ((place : ℕ) × (declaration s place end ≡ answered (some d))))
-        → cond t (answered (some f)) rest ≡ answered (some d) → (d.code ≡ code) × ((place : ℕ) × (declaration s place end ≡ answered (some d)))
+    chosen : (t : Bool) (f : Declaration) → eqb f.code code ≡ t → declaration s at end ≡ answered (Some f) → (rest : Outcome (Option Declaration))
+        → (rest ≡ answered (Some d) → (d.code ≡ code) × ((place : ℕ) × (declaration s place end ≡ answered (Some d))))
+        → cond t (answered (Some f)) rest ≡ answered (Some d) → (d.code ≡ code) × ((place : ℕ) × (declaration s place end ≡ answered (Some d)))
     chosen true f same read rest more e =
         let this : f ≡ d = some-injective f d (same_answer e) in
         (rw (sym this) (eqb-true f.code code same), (at, rw (sym this) read))
     chosen false f other read rest more e = more e
 
     by_cases : (o : Outcome (Option Declaration)) → declaration s at end ≡ o
-        → ((next : ℕ) → find code (listing (λ place. declaration s place end) (λ d. d.next) turns next) ≡ answered (some d) → (d.code ≡ code) × ((place : ℕ) × (declaration s place end ≡ answered (some d))))
-        → find code (listed o λ d. listing (λ place. declaration s place end) (λ d. d.next) turns d.next) ≡ answered (some d)
-        → (d.code ≡ code) × ((place : ℕ) × (declaration s place end ≡ answered (some d)))
-    by_cases (answered none) read more e = absurd (none-ne-some d (same_answer e))
-    by_cases (answered (some f)) read more e = chosen (eqb f.code code) f refl read _ (more f.next) e
+        → ((next : ℕ) → find code (listing (λ place. declaration s place end) (λ d. d.next) turns next) ≡ answered (Some d) → (d.code ≡ code) × ((place : ℕ) × (declaration s place end ≡ answered (Some d))))
+        → find code (listed o λ d. listing (λ place. declaration s place end) (λ d. d.next) turns d.next) ≡ answered (Some d)
+        → (d.code ≡ code) × ((place : ℕ) × (declaration s place end ≡ answered (Some d)))
+    by_cases (answered None) read more e = absurd (none-ne-some d (same_answer e))
+    by_cases (answered (Some f)) read more e = chosen (eqb f.code code) f refl read _ (more f.next) e
     by_cases (refused n v) read more e = absurd (refused-answered e)
 
 pub found_in_table : FoundInTable

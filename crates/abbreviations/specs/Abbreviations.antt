@@ -1,23 +1,17 @@
 -- The abbreviation table: document 01, "Abbreviations"; DWARF 5, section 6.1.1.4.7. `s` is the section, and the table is its part
 -- from `at` up to `end`.
-use Rattle.std.specs.Prelude.{ℕ, zero, suc, ◌+◌, ◌-◌, ◌*◌, Bool, false, cond, List, [], ◌∷◌, ltb, eqb}
-use Rattle.std.proofs.Math.Option.{Option, some, none}
+use Rattle.std.specs.Prelude.{ℕ, zero, suc, ◌+◌, ◌-◌, ◌*◌, cond, List, [], ◌∷◌, ltb, eqb, Option, Some, None}
 use Rattle.reader.specs.Outcome.{Outcome, answered, refused, ◌>>=◌, ◌>>◌, demand, refuse_if}
 use Rattle.reader.specs.Parts.{part_end, left_at}
 use Rattle.reader.specs.Numbers.{read_byte}
 use Rattle.leb128.specs.Leb128.{leb128, unsigned_limit, u16_limit}
 use Rattle.reader.specs.Listing.{Listing, ended, broken, item, listing}
 use Rattle.abbreviations.specs.declared.NameAbbreviation.{NameAbbreviation}
-use Rattle.abbreviations.specs.declared.Abbreviation.{Abbreviation}
-
--- a pair of name and form, and the place past it
-pub record Pair : Type 0 where
-  pub name : ℕ
-  pub form : ℕ
-  pub next : ℕ
+use Rattle.abbreviations.specs.declared.ReadAttribute.{ReadAttribute}
+use Rattle.abbreviations.specs.declared.Head.{Head}
 
 -- name and form, 16 bits each; with name 0 the form is 0 too, else 5; with any other name it is not, else 6
-unfoldable pub pair : List ℕ → ℕ → ℕ → Outcome Pair
+unfoldable pub pair : List ℕ → ℕ → ℕ → Outcome ReadAttribute
 pair s at end = do
   name ← leb128 u16_limit s at end
   form ← leb128 u16_limit s name.next end
@@ -35,7 +29,7 @@ pub record Attributes : Type 0 where
   pub next : ℕ
 
 -- an attribute before others
-abbrev pub before : Pair → Attributes → Attributes
+abbrev pub before : ReadAttribute → Attributes → Attributes
 before p rest = record { list = record { name = p.name; form = p.form } ∷ rest.list; next = rest.next }
 
 -- the pairs from `at` on, up to (0, 0). Given as many turns as bytes are left, it has turns enough (`attributes_step`); where no
@@ -52,20 +46,14 @@ attributes_in (suc turns) s at end = do
 unfoldable pub attributes : List ℕ → ℕ → ℕ → Outcome Attributes
 attributes s at end = attributes_in (left_at s at end) s at end
 
--- the code and the tag of a declaration, and the place past them
-pub record Head : Type 0 where
-  pub code : ℕ
-  pub tag : ℕ
-  pub next : ℕ
-
--- code, 64 bits, and tag, 16 bits; none at the part's end and at code 0; a tag of 0 is 4
+-- the code and the tag of a declaration: code, 64 bits, and tag, 16 bits; none at the part's end and at code 0; a tag of 0 is 4
 unfoldable pub head : List ℕ → ℕ → ℕ → Outcome (Option Head)
-head s at end = cond (eqb (left_at s at end) 0) (answered none) (do
+head s at end = cond (eqb (left_at s at end) 0) (answered None) (do
   code ← leb128 unsigned_limit s at end
-  cond (eqb code.value 0) (answered none) (do
+  cond (eqb code.value 0) (answered None) (do
     tag ← leb128 u16_limit s code.next end
     refuse_if (eqb tag.value 0) 4 0
-    answered (some (record { code = code.value; tag = tag.value; next = tag.next }))))
+    answered (Some (record { code = code.value; tag = tag.value; next = tag.next }))))
 
 -- a declaration: its code, its tag and its attributes, with the place of their pairs and the place past it
 pub record Declaration : Type 0 where
@@ -76,10 +64,10 @@ pub record Declaration : Type 0 where
   pub next : ℕ
 
 unfoldable pub with_attributes : List ℕ → ℕ → Option Head → Outcome (Option Declaration)
-with_attributes s end none = answered none
-with_attributes s end (some h) = do
+with_attributes s end None = answered None
+with_attributes s end (Some h) = do
   a ← attributes s h.next end
-  answered (some (record { code = h.code; tag = h.tag; place = h.next; attributes = a.list; next = a.next }))
+  answered (Some (record { code = h.code; tag = h.tag; place = h.next; attributes = a.list; next = a.next }))
 
 -- the declaration at `at`, or none where the table ends
 unfoldable pub declaration : List ℕ → ℕ → ℕ → Outcome (Option Declaration)
@@ -102,49 +90,38 @@ parsed s at end = ending (table s at end)
 
 -- the first declaration with a code; a refusal that comes before it is the answer
 unfoldable pub find : ℕ → Listing Declaration → Outcome (Option Declaration)
-find code ended = answered none
+find code ended = answered None
 find code (broken n v) = refused n v
-find code (item d rest) = cond (eqb d.code code) (answered (some d)) (find code rest)
+find code (item d rest) = cond (eqb d.code code) (answered (Some d)) (find code rest)
 
 -- a declaration as the code hands it out: the place of its pairs stands for them
 abbrev pub handed : Declaration → NameAbbreviation
 handed d = record { code = d.code; tag = d.tag; attributes = d.place; next = d.next }
 
-abbrev pub handed_out : Option Declaration → Abbreviation
-handed_out none = Abbreviation.NotFound
-handed_out (some d) = Abbreviation.Found (handed d)
+abbrev pub handed_out : Option Declaration → Option NameAbbreviation
+handed_out None = None
+handed_out (Some d) = Some (handed d)
 
 -- what a search by code answers
-unfoldable pub found : ℕ → List ℕ → ℕ → ℕ → Outcome Abbreviation
+unfoldable pub found : ℕ → List ℕ → ℕ → ℕ → Outcome (Option NameAbbreviation)
 found code s at end = do
   d ← find code (table s at end)
   answered (handed_out d)
 
 -- What single functions of the code answer.
--- Two bytes below 128, both 0 or neither of them, as one number, and 65535 where there are none such: a short pair (`pair-short`).
-abbrev or_other : Outcome ℕ → ℕ
-or_other (answered n) = n
-or_other (refused n v) = 65535
+-- Two bytes below 128, both 0 or neither of them: a short pair (`pair_short`). `None` stands for all else.
+abbrev or_none : Outcome (ℕ × ℕ) → Option (ℕ × ℕ)
+or_none (answered p) = Some p
+or_none (refused n v) = None
 
-unfoldable pub short_pair : List ℕ → ℕ → ℕ → ℕ
-short_pair s at end = or_other (do
+unfoldable pub short_pair : List ℕ → ℕ → ℕ → Option (ℕ × ℕ)
+short_pair s at end = or_none (do
   a ← read_byte s at end
   b ← read_byte s a.next end
   refuse_if (ltb 127 a.value) 0 0
   refuse_if (ltb 127 b.value) 0 0
   cond (eqb a.value 0) (demand (eqb b.value 0) 0 0) (refuse_if (eqb b.value 0) 0 0)
-  answered (a.value + 256 * b.value))
-
--- whether there are two bytes from 1 to 127: a short pair that is not 0 (`short-some`)
-abbrev or_false : Outcome Bool → Bool
-or_false (answered t) = t
-or_false (refused n v) = false
-
-unfoldable pub is_short : List ℕ → ℕ → ℕ → Bool
-is_short s at end = or_false (do
-  a ← read_byte s at end
-  b ← read_byte s a.next end
-  answered (cond (ltb a.value 1) false (cond (ltb 127 a.value) false (cond (ltb b.value 1) false (ltb b.value 128)))))
+  answered (a.value, b.value))
 
 -- the place past the pairs, and one declaration
 unfoldable pub attributes_end : List ℕ → ℕ → ℕ → Outcome ℕ
@@ -152,11 +129,7 @@ attributes_end s at end = do
   a ← attributes s at end
   answered a.next
 
-abbrev pub handed_on : Option Declaration → Option NameAbbreviation
-handed_on none = none
-handed_on (some d) = some (handed d)
-
 unfoldable pub declared : List ℕ → ℕ → ℕ → Outcome (Option NameAbbreviation)
 declared s at end = do
   d ← declaration s at end
-  answered (handed_on d)
+  answered (handed_out d)

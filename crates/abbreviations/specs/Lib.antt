@@ -1,5 +1,4 @@
--- What each call of the crate answers. Abbreviations: the table as a list of declarations, and the search in it. Answers: the
--- outcome of each answer. Sanity: what is proved of these.
+-- What each call of the crate answers. Abbreviations: the table as a list of declarations, and the search in it. Sanity: what is
+-- proved of these.
 pub mod Abbreviations
-pub mod Answers
 pub mod Sanity

@@ -1,7 +1,6 @@
 -- What a reader of the definitions, and the crates above, may want to be sure of. The laws of proofs/AbbreviationLaws.antt that have
 -- these types prove them.
-use Rattle.std.specs.Prelude.{ℕ, ◌<◌, ◌≡◌, List}
-use Rattle.std.proofs.Math.Option.{some}
+use Rattle.std.specs.Prelude.{ℕ, ◌<◌, ◌≡◌, List, Some}
 use Rattle.std.proofs.Math.Seq.{slice}
 use Rattle.reader.specs.Outcome.{answered}
 use Rattle.reader.specs.Parts.{Forward}
@@ -14,19 +13,19 @@ TablesUnfold = (s : List ℕ) (at end : ℕ) → table s at end ≡ listed (decl
 
 -- a declaration takes at least a byte and stays inside its part
 abbrev pub DeclarationsForward : Type 0
-DeclarationsForward = (s : List ℕ) (at end : ℕ) (d : Declaration) → declaration s at end ≡ answered (some d) → Forward s at end d.next
+DeclarationsForward = (s : List ℕ) (at end : ℕ) (d : Declaration) → declaration s at end ≡ answered (Some d) → Forward s at end d.next
 
 -- its attributes are those that are read at the place that it is handed out with
 abbrev pub DeclarationsRead : Type 0
 DeclarationsRead =
-    (s : List ℕ) (at end : ℕ) (d : Declaration) → declaration s at end ≡ answered (some d)
+    (s : List ℕ) (at end : ℕ) (d : Declaration) → declaration s at end ≡ answered (Some d)
     → (at < d.place) × (attributes s d.place end ≡ answered (record { list = d.attributes; next = d.next }))
 
 -- what a search finds has the code, and stands in the table: some place of the part has that declaration
 abbrev pub FoundInTable : Type 0
 FoundInTable =
-    (code : ℕ) (s : List ℕ) (at end : ℕ) (d : Declaration) → find code (table s at end) ≡ answered (some d)
-    → (d.code ≡ code) × ((place : ℕ) × (declaration s place end ≡ answered (some d)))
+    (code : ℕ) (s : List ℕ) (at end : ℕ) (d : Declaration) → find code (table s at end) ≡ answered (Some d)
+    → (d.code ≡ code) × ((place : ℕ) × (declaration s place end ≡ answered (Some d)))
 
 -- a table looks at no byte outside its part
 abbrev pub TablesInPart : Type 0

@@ -3,14 +3,14 @@
 //
 // gimli keeps the declarations in a `Vec`; here they are read again from the bytes at each call. A table is a part of the section,
 // from a place `at` up to `end`, as everywhere in `reader`: any numbers are legal arguments.
+// (s, at, end) stay parameters: with a struct of s and end, as was tried, contracts are no plainer (docs/DECISIONS.md).
 #![tactic(auto)]
 
 ghost use Rattle.std.specs.Prelude.{◌≡◌};
-ghost use Rattle.reader.specs.Answers.{skip_outcome};
-ghost use Rattle.abbreviations.specs.Answers.{attribute_outcome, head_outcome, declaration_outcome, table_outcome, abbreviation_outcome};
-ghost use Rattle.abbreviations.specs.Abbreviations.{short_pair, is_short, pair, attributes_end, head, declared, parsed, found};
+ghost use Rattle.reader.specs.Answers.{outcome};
+ghost use Rattle.abbreviations.specs.Abbreviations.{short_pair, pair, attributes_end, head, declared, parsed, found};
 
-use reader::{Error, Skipped, U8Read, U16Read, U64Read, is_empty, read_u8};
+use reader::{Error, is_empty, read_u8};
 
 // A pair of name and form, and the place past it. Name and form are both 0 in the pair that closes a declaration, and both not
 // 0 in every other.
@@ -21,25 +21,12 @@ pub struct ReadAttribute {
     pub next: usize,
 }
 
-#[derive(Clone, Copy)]
-pub enum AttributeRead {
-    Value(ReadAttribute),
-    Refused(Error),
-}
-
 // The code and the tag of a declaration, and the place past them.
 #[derive(Clone, Copy)]
 pub struct Head {
     pub code: u64,
     pub tag: u16,
     pub next: usize,
-}
-
-#[derive(Clone, Copy)]
-pub enum HeadRead {
-    Value(Head),
-    End,
-    Refused(Error),
 }
 
 // A declaration: its code, its tag, the place of its pairs of name and form, and the place past them.
@@ -51,104 +38,34 @@ pub struct NameAbbreviation {
     pub next: usize,
 }
 
-// A declaration, or the end of the table.
-#[derive(Clone, Copy)]
-pub enum DeclarationRead {
-    Value(NameAbbreviation),
-    End,
-    Refused(Error),
-}
-
-// The whole table was read.
-#[derive(Clone, Copy)]
-pub enum TableRead {
-    Whole,
-    Refused(Error),
-}
-
-// What a search by code found.
-#[derive(Clone, Copy)]
-pub enum Abbreviation {
-    Found(NameAbbreviation),
-    NotFound,
-}
-
-#[derive(Clone, Copy)]
-pub enum AbbreviationRead {
-    Value(Abbreviation),
-    Refused(Error),
-}
-
-// What stands for two bytes that are no short pair.
-const OTHER: u16 = 65535;
-
-// Two bytes below 128, both 0 or neither of them, as the first and 256 times the second; `OTHER` stands for all else. Nearly all of a table
-// is of such bytes, and a plain number is handed on in a register.
-fn short_pair(s: &[u8], at: usize, end: usize) -> u16
+// Two bytes below 128, both 0 or neither of them: each is then a number by itself, and nearly all of a table is of such bytes. None stands for
+// all else.
+#[tactic(auto, unfolding(crate::specs::Abbreviations::short_pair))]
+#[inline(always)]
+fn short_pair(s: &[u8], at: usize, end: usize) -> Option<(u8, u8)>
     ensures { result ≡ short_pair s.now at end }
 {
-    let a = match read_u8(s, at, end) {
-        U8Read::Value(r) => r,
-        U8Read::Refused(_) => return OTHER,
-    };
-    let b = match read_u8(s, a.next, end) {
-        U8Read::Value(r) => r,
-        U8Read::Refused(_) => return OTHER,
-    };
+    let a = read_u8(s, at, end).ok()?;
+    let b = read_u8(s, a.next, end).ok()?;
     if 127 < a.value {
-        return OTHER;
+        return None;
     }
     if 127 < b.value {
-        return OTHER;
+        return None;
     }
-    if a.value == 0 {
-        if b.value == 0 {
-            return 0;
-        }
-        return OTHER;
+    if (a.value == 0) != (b.value == 0) {
+        return None;
     }
-    if b.value == 0 {
-        return OTHER;
-    }
-    (a.value as u16) + 256 * (b.value as u16)
-}
-
-// Whether two bytes stand at `at` that are both from 1 to 127: a short pair that is not 0, and nearly every pair.
-fn is_short(s: &[u8], at: usize, end: usize) -> bool
-    ensures { result ≡ is_short s.now at end }
-{
-    let a = match read_u8(s, at, end) {
-        U8Read::Value(r) => r,
-        U8Read::Refused(_) => return false,
-    };
-    let b = match read_u8(s, a.next, end) {
-        U8Read::Value(r) => r,
-        U8Read::Refused(_) => return false,
-    };
-    if a.value < 1 {
-        return false;
-    }
-    if 127 < a.value {
-        return false;
-    }
-    if b.value < 1 {
-        return false;
-    }
-    b.value < 128
+    Some((a.value, b.value))
 }
 
 // The pair of name and form at `at`: (0, f) is refused with 5 and (n, 0) with 6.
-fn long_attribute(s: &[u8], at: usize, end: usize) -> AttributeRead
-    ensures { attribute_outcome result ≡ pair s.now at end }
+#[tactic(auto, unfolding(crate::specs::Abbreviations::pair))]
+fn long_attribute(s: &[u8], at: usize, end: usize) -> Result<ReadAttribute, Error>
+    ensures { outcome result ≡ pair s.now at end }
 {
-    let name = match leb128::read::u16(s, at, end) {
-        U16Read::Value(r) => r,
-        U16Read::Refused(e) => return AttributeRead::Refused(e),
-    };
-    let form = match leb128::read::u16(s, name.next, end) {
-        U16Read::Value(r) => r,
-        U16Read::Refused(e) => return AttributeRead::Refused(e),
-    };
+    let name = leb128::read::u16(s, at, end)?;
+    let form = leb128::read::u16(s, name.next, end)?;
     let pair = ReadAttribute {
         name: name.value,
         form: form.value,
@@ -156,156 +73,139 @@ fn long_attribute(s: &[u8], at: usize, end: usize) -> AttributeRead
     };
     if pair.name == 0 {
         if pair.form == 0 {
-            return AttributeRead::Value(pair);
+            return Ok(pair);
         }
-        return AttributeRead::Refused(Error::AttributeNameZero);
+        return Err(Error::AttributeNameZero);
     }
     if pair.form == 0 {
-        return AttributeRead::Refused(Error::AttributeFormZero);
+        return Err(Error::AttributeFormZero);
     }
-    AttributeRead::Value(pair)
+    Ok(pair)
 }
 
 // The same: a short pair here, all else apart.
-pub fn read_attribute(s: &[u8], at: usize, end: usize) -> AttributeRead
-    ensures { attribute_outcome result ≡ pair s.now at end }
+#[tactic(auto, using(crate::proofs::AbbreviationLaws::pair_short, crate::proofs::AbbreviationLaws::short_place))]
+#[inline(always)]
+pub fn read_attribute(s: &[u8], at: usize, end: usize) -> Result<ReadAttribute, Error>
+    ensures { outcome result ≡ pair s.now at end }
 {
-    let two = short_pair(s, at, end);
-    if two == OTHER {
+    let Some((name, form)) = short_pair(s, at, end) else {
         return long_attribute(s, at, end);
-    }
-    AttributeRead::Value(ReadAttribute {
-        name: two % 256,
-        form: two / 256,
+    };
+    Ok(ReadAttribute {
+        name: name as u16,
+        form: form as u16,
         next: at + 2,
     })
 }
 
 // Passes over the pairs of a declaration, the closing (0, 0) included.
-fn skip_attributes(s: &[u8], at: usize, end: usize) -> Skipped
-    ensures { skip_outcome result ≡ attributes_end s.now at end }
+#[tactic(auto, using(crate::proofs::AbbreviationLaws::pairs_on, crate::proofs::AbbreviationLaws::pairs_last, crate::proofs::AbbreviationLaws::short_place, crate::proofs::AbbreviationLaws::attributes_end_step, crate::proofs::AbbreviationLaws::pair_forward))]
+#[inline(always)]
+fn skip_attributes(s: &[u8], at: usize, end: usize) -> Result<usize, Error>
+    ensures { outcome result ≡ attributes_end s.now at end }
 {
     let mut place = at;
     loop {
-        if is_short(s, place, end) {
-            place = place + 2;
-        } else {
-            if short_pair(s, place, end) == 0 {
-                return Skipped::To(place + 2);
+        match short_pair(s, place, end) {
+            Some((name, _)) => {
+                if name == 0 {
+                    return Ok(place + 2);
+                }
+                place += 2;
             }
-            let a = match long_attribute(s, place, end) {
-                AttributeRead::Value(r) => r,
-                AttributeRead::Refused(e) => return Skipped::Refused(e),
-            };
-            if a.name == 0 {
-                return Skipped::To(a.next);
+            None => {
+                let a = long_attribute(s, place, end)?;
+                if a.name == 0 {
+                    return Ok(a.next);
+                }
+                place = a.next;
             }
-            place = a.next;
         }
     }
 }
 
 // The code and the tag of the declaration at `at`. The table ends at the end of its part, and at code 0.
-fn long_head(s: &[u8], at: usize, end: usize) -> HeadRead
-    ensures { head_outcome result ≡ head s.now at end }
+#[tactic(auto, unfolding(crate::specs::Abbreviations::head))]
+fn long_head(s: &[u8], at: usize, end: usize) -> Result<Option<Head>, Error>
+    ensures { outcome result ≡ head s.now at end }
 {
     if is_empty(s, at, end) {
-        return HeadRead::End;
+        return Ok(None);
     }
-    let code = match leb128::read::unsigned(s, at, end) {
-        U64Read::Value(r) => r,
-        U64Read::Refused(e) => return HeadRead::Refused(e),
-    };
+    let code = leb128::read::unsigned(s, at, end)?;
     if code.value == 0 {
-        return HeadRead::End;
+        return Ok(None);
     }
-    let tag = match leb128::read::u16(s, code.next, end) {
-        U16Read::Value(r) => r,
-        U16Read::Refused(e) => return HeadRead::Refused(e),
-    };
+    let tag = leb128::read::u16(s, code.next, end)?;
     if tag.value == 0 {
-        return HeadRead::Refused(Error::AbbreviationTagZero);
+        return Err(Error::AbbreviationTagZero);
     }
-    HeadRead::Value(Head {
+    Ok(Some(Head {
         code: code.value,
         tag: tag.value,
         next: tag.next,
-    })
+    }))
 }
 
 // The same: a code and a tag of one byte each here, all else apart.
-fn read_head(s: &[u8], at: usize, end: usize) -> HeadRead
-    ensures { head_outcome result ≡ head s.now at end }
+#[tactic(auto, using(crate::proofs::AbbreviationLaws::head_short, crate::proofs::AbbreviationLaws::short_place))]
+#[inline(always)]
+fn read_head(s: &[u8], at: usize, end: usize) -> Result<Option<Head>, Error>
+    ensures { outcome result ≡ head s.now at end }
 {
-    let two = short_pair(s, at, end);
-    if two == 0 {
-        return long_head(s, at, end);
+    match short_pair(s, at, end) {
+        Some((0, _)) | None => long_head(s, at, end),
+        Some((code, tag)) => Ok(Some(Head {
+            code: code as u64,
+            tag: tag as u16,
+            next: at + 2,
+        })),
     }
-    if two == OTHER {
-        return long_head(s, at, end);
-    }
-    HeadRead::Value(Head {
-        code: (two % 256) as u64,
-        tag: two / 256,
-        next: at + 2,
-    })
 }
 
 // The declaration at `at`, or the end of the table.
-pub fn read_declaration(s: &[u8], at: usize, end: usize) -> DeclarationRead
-    ensures { declaration_outcome result ≡ declared s.now at end }
+#[tactic(auto, using(crate::proofs::AbbreviationLaws::declared_step), unfolding(crate::proofs::AbbreviationLaws::with_end))]
+#[inline(always)]
+pub fn read_declaration(s: &[u8], at: usize, end: usize) -> Result<Option<NameAbbreviation>, Error>
+    ensures { outcome result ≡ declared s.now at end }
 {
-    let head = match read_head(s, at, end) {
-        HeadRead::Value(h) => h,
-        HeadRead::End => return DeclarationRead::End,
-        HeadRead::Refused(e) => return DeclarationRead::Refused(e),
+    let Some(head) = read_head(s, at, end)? else {
+        return Ok(None);
     };
-    match skip_attributes(s, head.next, end) {
-        Skipped::To(next) => DeclarationRead::Value(NameAbbreviation {
-            code: head.code,
-            tag: head.tag,
-            attributes: head.next,
-            next: next,
-        }),
-        Skipped::Refused(e) => DeclarationRead::Refused(e),
-    }
+    let next = skip_attributes(s, head.next, end)?;
+    Ok(Some(NameAbbreviation {
+        code: head.code,
+        tag: head.tag,
+        attributes: head.next,
+        next,
+    }))
 }
 
 // The first declaration with a code (gimli's `NameAbbreviations::get`). In a table that was never read whole, a bad declaration
 // that is met before the wanted one ends, that one included, gives its own refusal.
-pub fn get(s: &[u8], at: usize, end: usize, code: u64) -> AbbreviationRead
-    ensures { abbreviation_outcome result ≡ found code s.now at end }
+#[tactic(auto, using(crate::proofs::AbbreviationLaws::found_step, crate::proofs::AbbreviationLaws::declared_forward))]
+pub fn get(s: &[u8], at: usize, end: usize, code: u64) -> Result<Option<NameAbbreviation>, Error>
+    ensures { outcome result ≡ found code s.now at end }
 {
     let mut place = at;
     loop {
-        let head = match read_head(s, place, end) {
-            HeadRead::Value(h) => h,
-            HeadRead::End => return AbbreviationRead::Value(Abbreviation::NotFound),
-            HeadRead::Refused(e) => return AbbreviationRead::Refused(e),
+        let Some(declaration) = read_declaration(s, place, end)? else {
+            return Ok(None);
         };
-        let next = match skip_attributes(s, head.next, end) {
-            Skipped::To(past) => past,
-            Skipped::Refused(e) => return AbbreviationRead::Refused(e),
-        };
-        if head.code == code {
-            return AbbreviationRead::Value(Abbreviation::Found(NameAbbreviation {
-                code: head.code,
-                tag: head.tag,
-                attributes: head.next,
-                next: next,
-            }));
+        if declaration.code == code {
+            return Ok(Some(declaration));
         }
-        place = next;
+        place = declaration.next;
     }
 }
 
 // Reads the whole table, and refuses as the first bad declaration does (gimli's `NameAbbreviations::parse`): the search for code 0, which no
 // declaration has.
-pub fn parse(s: &[u8], at: usize, end: usize) -> TableRead
-    ensures { table_outcome result ≡ parsed s.now at end }
+#[tactic(auto, using(crate::proofs::AbbreviationLaws::parsed_found))]
+pub fn parse(s: &[u8], at: usize, end: usize) -> Result<(), Error>
+    ensures { outcome result ≡ parsed s.now at end }
 {
-    match get(s, at, end, 0) {
-        AbbreviationRead::Value(_) => TableRead::Whole,
-        AbbreviationRead::Refused(e) => TableRead::Refused(e),
-    }
+    get(s, at, end, 0)?;
+    Ok(())
 }

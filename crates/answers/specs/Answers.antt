@@ -1,16 +1,15 @@
 -- Outcomes as answers of one number. Units have the kinds that document 01 gives them in a record: 1 is a compile unit, 2 a local type unit
 -- and 3 a foreign one.
-use Rattle.std.specs.Prelude.{ℕ, Bool, cond}
+use Rattle.std.specs.Prelude.{ℕ, Bool, cond, Option, Some, None}
 use Rattle.reader.specs.Outcome.{Outcome, answered, refused}
 use Rattle.reader.specs.declared.common.DebugInfoOffset.{DebugInfoOffset}
 use Rattle.reader.specs.declared.common.DebugStrOffset.{DebugStrOffset}
 use Rattle.reader.specs.declared.common.DebugTypeSignature.{DebugTypeSignature}
 use Rattle.index.specs.declared.layout.NameIndex.{NameIndex}
 use Rattle.names.specs.declared.units.NameTypeUnit.{NameTypeUnit}
-use Rattle.names.specs.declared.units.DefaultUnit.{DefaultUnit}
-use Rattle.hashes.specs.declared.bucket.BucketIter.{BucketIter}
 use Rattle.entries.specs.declared.series.NameEntryIter.{NameEntryIter}
 use Rattle.answers.specs.declared.Answer.{Answer}
+use Rattle.hashes.specs.declared.bucket.NameBucketIter.{NameBucketIter}
 
 -- an answer of a kind, with its number; without a kind there is nothing
 abbrev pub given : ℕ → ℕ → Answer
@@ -52,18 +51,18 @@ abbrev pub type_unit_answer : NameTypeUnit → Answer
 type_unit_answer (NameTypeUnit.Local u) = given 2 u.0
 type_unit_answer (NameTypeUnit.Foreign t) = given 3 t.0
 
-abbrev pub default_unit_answer : DefaultUnit → Answer
-default_unit_answer (DefaultUnit.Some u) = given 1 u.0
-default_unit_answer DefaultUnit.None = nothing
+abbrev pub default_unit_answer : Option DebugInfoOffset → Answer
+default_unit_answer (Some u) = given 1 u.0
+default_unit_answer None = nothing
 
 -- an offset of .debug_str
 abbrev pub str_offset_answer : DebugStrOffset → Answer
 str_offset_answer o = given 1 o.0
 
 -- a bucket's first name
-abbrev pub bucket_answer : BucketIter → Answer
-bucket_answer (BucketIter.Some c) = given 1 c.name_table_index.0
-bucket_answer BucketIter.None = nothing
+abbrev pub bucket_answer : Option NameBucketIter → Answer
+bucket_answer (Some c) = given 1 c.name_table_index.0
+bucket_answer None = nothing
 
 -- the place of a name's first entry
 abbrev pub entries_answer : NameEntryIter → Answer

@@ -1,224 +1,160 @@
 // What is handed over to C, C++ and Rust: answers of one number, as structs of plain numbers by value. An answer has a status, which is 0 or
 // document 01's number of the refusal, a kind, which says what is answered, and a value, which is the answer's number or the one value that
 // the refusal carries. The kinds of units are those of a record (document 01, "The section query").
+//
+// Status and kind are plain numbers, since the structs cross to C.
 #![tactic(auto)]
 
-ghost use Rattle.std.specs.Prelude.{◌≡◌};
+ghost use Rattle.std.specs.Prelude.{◌≡◌, MatchResult};
+ghost use Rattle.std.specs.Result.{ForOk};
 ghost use Rattle.reader.specs.Errors.{number_of, value_of};
-ghost use Rattle.index.specs.Answers.{index_outcome};
-ghost use Rattle.names.specs.Answers.{count_outcome, flag_outcome, unit_outcome, signature_outcome, type_unit_outcome, default_unit_outcome, str_offset_outcome};
-ghost use Rattle.hashes.specs.Answers.{bucket_outcome};
-ghost use Rattle.entries.specs.Answers.{entries_outcome};
-ghost use Rattle.query_plan.specs.Answers.{query_outcome};
-ghost use Rattle.answers.specs.Answers.{refused_answer, handed, open_answer, count_answer, flag_answer, unit_answer, signature_answer, type_unit_answer, default_unit_answer, str_offset_answer, bucket_answer, entries_answer};
+ghost use Rattle.reader.specs.Answers.{outcome};
+ghost use Rattle.answers.specs.Answers.{given, refused_answer, handed, open_answer, count_answer, flag_answer, unit_answer, signature_answer, type_unit_answer, default_unit_answer, str_offset_answer, bucket_answer, entries_answer};
 
-use entries::EntriesRead;
-use hashes::{BucketIter, BucketRead};
-use index::IndexRead;
-use names::{
-    CountRead, DefaultUnit, DefaultUnitRead, FlagRead, NameTypeUnit, SignatureRead, StrOffsetRead,
-    TypeUnitRead, UnitRead,
-};
-use query_plan::QueryRead;
-use reader::Error;
+use entries::NameEntryIter;
+use hashes::NameBucketIter;
+use index::NameIndex;
+use names::NameTypeUnit;
+use reader::{DebugInfoOffset, DebugStrOffset, DebugTypeSignature, Error};
 
 // An answer: status 0, what is answered, and its number; or the refusal's number, kind 0, and its value.
 #[repr(C)]
-#[derive(Clone, Copy)]
+#[derive(Clone, Copy, Default)]
 pub struct Answer {
     pub status: u32,
     pub kind: u32,
     pub value: u64,
 }
 
-// A refusal.
-pub fn refused(e: Error) -> Answer
-    ensures { result ≡ refused_answer (number_of e) (value_of e) }
-{
-    Answer {
-        status: e.number() as u32,
-        kind: 0,
-        value: e.value(),
+impl From<Error> for Answer {
+    ghost from_gives = { λ e answer. answer ≡ refused_answer (number_of e) (value_of e) };
+
+    // A refusal.
+    fn from(e: Error) -> Answer {
+        Answer {
+            status: e.number() as u32,
+            kind: 0,
+            value: e.value(),
+        }
+    }
+}
+
+impl Answer {
+    // What is answered, by its kind and its number.
+    // (From two values, so no `From`.)
+    pub fn given(kind: u32, value: u64) -> Answer
+        ensures { result ≡ given kind value }
+    {
+        Answer {
+            status: 0,
+            kind,
+            value,
+        }
+    }
+
+    // What is answered, as `shown` shows it, or a refusal.
+    pub fn handed<T, F: FnOnce(T) -> Answer>(r: Result<T, Error>, shown: F) -> Answer
+        requires { ForOk r (F.pre shown) }
+        ensures { MatchResult r (λ a. F.post shown a result) (λ e. result ≡ refused_answer (number_of e) (value_of e)) }
+    {
+        match r {
+            Ok(a) => shown(a),
+            Err(e) => Answer::from(e),
+        }
     }
 }
 
 // An index was opened.
-pub fn open_answer(r: IndexRead) -> Answer
-    ensures { result ≡ handed open_answer (index_outcome r) }
+pub fn open_answer(r: Result<NameIndex, Error>) -> Answer
+    ensures { result ≡ handed open_answer (outcome r) }
 {
-    match r {
-        IndexRead::Value(_) => Answer {
-            status: 0,
-            kind: 1,
-            value: 0,
-        },
-        IndexRead::Refused(e) => refused(e),
-    }
+    Answer::handed(r, |_| Answer::given(1, 0))
 }
 
 // A count.
-pub fn count_answer(r: CountRead) -> Answer
-    ensures { result ≡ handed count_answer (count_outcome r) }
+pub fn count_answer(r: Result<u32, Error>) -> Answer
+    ensures { result ≡ handed count_answer (outcome r) }
 {
-    match r {
-        CountRead::Value(n) => Answer {
-            status: 0,
-            kind: 1,
-            value: n as u64,
-        },
-        CountRead::Refused(e) => refused(e),
-    }
+    Answer::handed(r, |n| Answer::given(1, n as u64))
 }
 
-// Whether something is so: 1 or 0.
-pub fn flag_answer(r: FlagRead) -> Answer
-    ensures { result ≡ handed flag_answer (flag_outcome r) }
+// Whether something is so: 1 or 0. (Written out, so that it stands here which is 1.)
+pub fn flag_answer(r: Result<bool, Error>) -> Answer
+    ensures { result ≡ handed flag_answer (outcome r) }
 {
-    match r {
-        FlagRead::Value(b) => Answer {
-            status: 0,
-            kind: 1,
-            value: if b { 1 } else { 0 },
-        },
-        FlagRead::Refused(e) => refused(e),
-    }
+    Answer::handed(r, |b| Answer::given(1, if b { 1 } else { 0 }))
 }
 
 // A unit of .debug_info, of that kind: 1 for a compile unit, 2 for a local type unit.
-pub fn unit_answer(kind: u32, r: UnitRead) -> Answer
-    ensures { result ≡ handed (unit_answer kind) (unit_outcome r) }
+pub fn unit_answer(kind: u32, r: Result<DebugInfoOffset, Error>) -> Answer
+    ensures { result ≡ handed (unit_answer kind) (outcome r) }
 {
-    match r {
-        UnitRead::Value(u) => Answer {
-            status: 0,
-            kind: kind,
-            value: u.0 as u64,
-        },
-        UnitRead::Refused(e) => refused(e),
-    }
+    Answer::handed(r, |u| Answer::given(kind, u.0 as u64))
 }
 
 // A foreign type unit.
-pub fn signature_answer(r: SignatureRead) -> Answer
-    ensures { result ≡ handed signature_answer (signature_outcome r) }
+pub fn signature_answer(r: Result<DebugTypeSignature, Error>) -> Answer
+    ensures { result ≡ handed signature_answer (outcome r) }
 {
-    match r {
-        SignatureRead::Value(t) => Answer {
-            status: 0,
-            kind: 3,
-            value: t.0,
-        },
-        SignatureRead::Refused(e) => refused(e),
+    Answer::handed(r, |t| Answer::given(3, t.0))
+}
+
+impl From<NameTypeUnit> for Answer {
+    ghost from_gives = { λ unit answer. answer ≡ type_unit_answer unit };
+
+    // A type unit, local or foreign.
+    fn from(unit: NameTypeUnit) -> Answer {
+        match unit {
+            NameTypeUnit::Local(u) => Answer::given(2, u.0 as u64),
+            NameTypeUnit::Foreign(t) => Answer::given(3, t.0),
+        }
     }
 }
 
 // A type unit, local or foreign.
-pub fn type_unit_answer(r: TypeUnitRead) -> Answer
-    ensures { result ≡ handed type_unit_answer (type_unit_outcome r) }
+pub fn type_unit_answer(r: Result<NameTypeUnit, Error>) -> Answer
+    ensures { result ≡ handed type_unit_answer (outcome r) }
 {
-    let unit = match r {
-        TypeUnitRead::Value(u) => u,
-        TypeUnitRead::Refused(e) => return refused(e),
-    };
-    match unit {
-        NameTypeUnit::Local(u) => Answer {
-            status: 0,
-            kind: 2,
-            value: u.0 as u64,
-        },
-        NameTypeUnit::Foreign(t) => Answer {
-            status: 0,
-            kind: 3,
-            value: t.0,
-        },
-    }
+    Answer::handed(r, |unit| Answer::from(unit))
 }
 
 // The default compile unit, or none.
-pub fn default_unit_answer(r: DefaultUnitRead) -> Answer
-    ensures { result ≡ handed default_unit_answer (default_unit_outcome r) }
+pub fn default_unit_answer(r: Result<Option<DebugInfoOffset>, Error>) -> Answer
+    ensures { result ≡ handed default_unit_answer (outcome r) }
 {
-    let unit = match r {
-        DefaultUnitRead::Value(u) => u,
-        DefaultUnitRead::Refused(e) => return refused(e),
-    };
-    match unit {
-        DefaultUnit::Some(u) => Answer {
-            status: 0,
-            kind: 1,
-            value: u.0 as u64,
-        },
-        DefaultUnit::None => Answer {
-            status: 0,
-            kind: 0,
-            value: 0,
-        },
-    }
+    Answer::handed(r, |unit| match unit {
+        Some(u) => Answer::given(1, u.0 as u64),
+        None => Answer::default(),
+    })
 }
 
 // An offset of .debug_str.
-pub fn str_offset_answer(r: StrOffsetRead) -> Answer
-    ensures { result ≡ handed str_offset_answer (str_offset_outcome r) }
+pub fn str_offset_answer(r: Result<DebugStrOffset, Error>) -> Answer
+    ensures { result ≡ handed str_offset_answer (outcome r) }
 {
-    match r {
-        StrOffsetRead::Value(o) => Answer {
-            status: 0,
-            kind: 1,
-            value: o.0 as u64,
-        },
-        StrOffsetRead::Refused(e) => refused(e),
-    }
+    Answer::handed(r, |o| Answer::given(1, o.0 as u64))
 }
 
 // The first name of a bucket, or none.
-pub fn bucket_answer(r: BucketRead) -> Answer
-    ensures { result ≡ handed bucket_answer (bucket_outcome r) }
+pub fn bucket_answer(r: Result<Option<NameBucketIter>, Error>) -> Answer
+    ensures { result ≡ handed bucket_answer (outcome r) }
 {
-    let found = match r {
-        BucketRead::Value(b) => b,
-        BucketRead::Refused(e) => return refused(e),
-    };
-    match found {
-        BucketIter::Some(c) => {
-            let name = c.name_table_index;
-            Answer {
-                status: 0,
-                kind: 1,
-                value: name.0 as u64,
-            }
-        }
-        BucketIter::None => Answer {
-            status: 0,
-            kind: 0,
-            value: 0,
-        },
-    }
+    Answer::handed(r, |found| match found {
+        Some(c) => Answer::given(1, c.name_table_index.0 as u64),
+        None => Answer::default(),
+    })
 }
 
 // The place of a name's first entry.
-pub fn entries_answer(r: EntriesRead) -> Answer
-    ensures { result ≡ handed entries_answer (entries_outcome r) }
+pub fn entries_answer(r: Result<NameEntryIter, Error>) -> Answer
+    ensures { result ≡ handed entries_answer (outcome r) }
 {
-    match r {
-        EntriesRead::Value(c) => Answer {
-            status: 0,
-            kind: 1,
-            value: c.at as u64,
-        },
-        EntriesRead::Refused(e) => refused(e),
-    }
+    Answer::handed(r, |c| Answer::given(1, c.at as u64))
 }
 
-// How many records there are.
-pub fn total_answer(r: QueryRead) -> Answer
-    ensures { result ≡ handed count_answer (query_outcome r) }
+// How many records there are. (`count_answer` of 64 bits: over a type parameter the contract would have to say what number it is, and be no plainer.)
+pub fn total_answer(r: Result<u64, Error>) -> Answer
+    ensures { result ≡ handed count_answer (outcome r) }
 {
-    match r {
-        QueryRead::Total(n) => Answer {
-            status: 0,
-            kind: 1,
-            value: n,
-        },
-        QueryRead::Refused(e) => refused(e),
-    }
+    Answer::handed(r, |n| Answer::given(1, n))
 }

@@ -13,22 +13,22 @@ use Rattle.reader.specs.Parts.{left_at}
 use Rattle.reader.specs.Lists.{memberb}
 use Rattle.reader.specs.declared.endianity.RunTimeEndian.{RunTimeEndian}
 use Rattle.reader.proofs.OutcomeLaws.{refused-answered, same_answer, bind_answered, bind_same, cond_is}
-use Rattle.abbreviations.specs.Abbreviations.{Attributes, Pair, pair, before, attributes_in, attributes}
-use Rattle.abbreviations.proofs.AbbreviationLaws.{pair-forward, pair_none}
-use Rattle.forms.specs.Forms.{Valued, form_value}
+use Rattle.abbreviations.specs.Abbreviations.{Attributes, pair, before, attributes_in, attributes}
+use Rattle.abbreviations.specs.declared.ReadAttribute.{ReadAttribute}
+use Rattle.abbreviations.proofs.AbbreviationLaws.{pair_forward, pair_none}
+use Rattle.forms.specs.Forms.{form_value}
 use Rattle.forms.proofs.FormLaws as forms
 use Rattle.forms.specs.declared.NameAttributeValue.{NameAttributeValue}
-use Rattle.attributes.specs.declared.attribute.Kind.{Kind}
 use Rattle.attributes.specs.declared.attribute.FirstAttribute.{FirstAttribute}
-use Rattle.attributes.specs.declared.attribute.UnitNumber.{UnitNumber}
 use Rattle.attributes.specs.declared.facts.Facts.{Facts}
-use Rattle.attributes.specs.declared.facts.ReadFacts.{ReadFacts}
 use Rattle.attributes.specs.Meaning.{unit_number_in, unit_number}
-use Rattle.attributes.specs.Sanity.{ValuesDeclared, EntryValuesOnward, stands_as, stands, StandsExactly}
-use Rattle.attributes.specs.Attributes.{NameAttribute, Values, value_then, values, kept, no_attribute, first, compile_unit_name, type_unit_name, die_offset_name, parent_name, type_hash_name, facts, values_in, values_from, facts_read, or_else_by, or_else, with_one, with_fact, no_facts}
+use Rattle.attributes.specs.Sanity.{ValuesDeclared, EntryValuesOnward, stands, StandsExactly}
+use Rattle.attributes.specs.Attributes.{NameAttribute, Values, value_then, values, kept, first, compile_unit_name, type_unit_name, die_offset_name, parent_name, type_hash_name, facts, values_in, values_from, facts_read, or_else, with_one, with_fact, no_facts}
+use Rattle.reader.specs.declared.reader.Read.{Read}
+use Rattle.std.specs.Prelude.{Option, Some, None}
 
 -- a pair, its value, and the values after it
-abbrev turn : RunTimeEndian → List ℕ → ℕ → ℕ → Outcome Pair → (Pair → ℕ → Outcome Values) → Outcome Values
+abbrev turn : RunTimeEndian → List ℕ → ℕ → ℕ → Outcome ReadAttribute → (ReadAttribute → ℕ → Outcome Values) → Outcome Values
 turn order s at end o more = do
   p ← o
   cond (eqb p.name 0) (answered (record { list = []; next = at })) (do
@@ -36,11 +36,11 @@ turn order s at end o more = do
     rest ← more p v.next
     answered (value_then p.name p.form v.value rest))
 
-turn-same : (order : RunTimeEndian) (s : List ℕ) (at end : ℕ) (o : Outcome Pair) (f g : Pair → ℕ → Outcome Values)
-    → ((p : Pair) → o ≡ answered p → (next : ℕ) → f p next ≡ g p next) → turn order s at end o f ≡ turn order s at end o g
+turn-same : (order : RunTimeEndian) (s : List ℕ) (at end : ℕ) (o : Outcome ReadAttribute) (f g : ReadAttribute → ℕ → Outcome Values)
+    → ((p : ReadAttribute) → o ≡ answered p → (next : ℕ) → f p next ≡ g p next) → turn order s at end o f ≡ turn order s at end o g
 turn-same order s at end (answered p) f g h = ap (cond (eqb p.name 0) _) (valued (form_value p.form order s at end))
   where
-    valued : (o : Outcome Valued)
+    valued : (o : Outcome (Read NameAttributeValue))
         → (o >>= λ v. f p v.next >>= λ rest. answered (value_then p.name p.form v.value rest))
         ≡ (o >>= λ v. g p v.next >>= λ rest. answered (value_then p.name p.form v.value rest))
     valued (answered v) = rw (h p refl v.next)
@@ -56,7 +56,7 @@ values_turns zero (suc j) order s pairs pairsEnd at end hk hj = rw (pair_none s 
 values_turns (suc k) zero order s pairs pairsEnd at end hk hj = rw (pair_none s pairs pairsEnd (omega arith))
 values_turns (suc k) (suc j) order s pairs pairsEnd at end hk hj =
     turn-same order s at end (pair s pairs pairsEnd) _ _ λ p e next.
-    let (ahead, inside) = pair-forward s pairs pairsEnd p e in
+    let (ahead, inside) = pair_forward s pairs pairsEnd p e in
     values_turns k j order s p.next pairsEnd next end (omega arith) (omega arith)
 
 -- the values are that of a pair and those after it
@@ -66,11 +66,11 @@ unfolding values_from values_in
 turn_step order s pairs pairsEnd at end =
     values_turns (left_at s pairs pairsEnd) (suc (left_at s pairs pairsEnd)) order s pairs pairsEnd at end (omega arith) (omega arith)
     ∙ (turn-same order s at end (pair s pairs pairsEnd) _ _ λ p e next.
-    let (ahead, inside) = pair-forward s pairs pairsEnd p e in
+    let (ahead, inside) = pair_forward s pairs pairsEnd p e in
     values_turns (left_at s pairs pairsEnd) (left_at s p.next pairsEnd) order s p.next pairsEnd next end (omega arith) (omega arith))
 
 -- what is kept of a name in the end: each attribute in turn, in the order of the code
-unfoldable pub kept_one : ℕ → FirstAttribute → List NameAttribute → FirstAttribute
+unfoldable pub kept_one : ℕ → Option FirstAttribute → List NameAttribute → Option FirstAttribute
 kept_one wanted f [] = f
 kept_one wanted f (a ∷ more) = kept_one wanted (with_one wanted f a.name (kept a.form a.value)) more
 
@@ -84,31 +84,24 @@ kept_all f list = record {
 }
 
 -- an attribute that was kept stays
-or_kept : (form : ℕ) (value : NameAttributeValue) (b : FirstAttribute) → or_else (kept form value) b ≡ kept form value
-unfolding or_else or_else_by kept
-or_kept form (NameAttributeValue.Unsigned n) b = refl
-or_kept form (NameAttributeValue.Offset n) b = refl
-or_kept form (NameAttributeValue.Flag t) b = refl
-
-kept_stays : (wanted form : ℕ) (value : NameAttributeValue) (list : List NameAttribute) → kept_one wanted (kept form value) list ≡ kept form value
+kept_stays : (wanted : ℕ) (b : FirstAttribute) (list : List NameAttribute) → kept_one wanted (Some b) list ≡ Some b
 unfolding kept_one
-kept_stays wanted form value [] = refl
-kept_stays wanted form value (a ∷ more) = by_name (eqb a.name wanted) (kept_stays wanted form value more)
+kept_stays wanted b [] = refl
+kept_stays wanted b (a ∷ more) = by_name (eqb a.name wanted) (kept_stays wanted b more)
   where
-    by_name : (t : Bool) → kept_one wanted (kept form value) more ≡ kept form value
-        → kept_one wanted (cond t (or_else (kept form value) (kept a.form a.value)) (kept form value)) more ≡ kept form value
-    by_name true rest = rw (or_kept form value (kept a.form a.value)) rest
+    by_name : (t : Bool) → kept_one wanted (Some b) more ≡ Some b → kept_one wanted (cond t (Some b) (Some b)) more ≡ Some b
+    by_name true rest = rest
     by_name false rest = rest
 
 -- so from none on it is the first of its name
-kept-first : (wanted : ℕ) (list : List NameAttribute) → kept_one wanted no_attribute list ≡ first wanted list
-unfolding kept_one first no_attribute or_else or_else_by
+kept-first : (wanted : ℕ) (list : List NameAttribute) → kept_one wanted None list ≡ first wanted list
+unfolding kept_one first
 kept-first wanted [] = refl
 kept-first wanted (a ∷ more) = by_name (eqb a.name wanted) (kept-first wanted more)
   where
-    by_name : (t : Bool) → kept_one wanted no_attribute more ≡ first wanted more
-        → kept_one wanted (cond t (kept a.form a.value) no_attribute) more ≡ cond t (kept a.form a.value) (first wanted more)
-    by_name true rest = kept_stays wanted a.form a.value more
+    by_name : (t : Bool) → kept_one wanted None more ≡ first wanted more
+        → kept_one wanted (cond t (Some (kept a.form a.value)) None) more ≡ cond t (Some (kept a.form a.value)) (first wanted more)
+    by_name true rest = kept_stays wanted (kept a.form a.value) more
     by_name false rest = rest
 
 facts-first : (list : List NameAttribute) → facts list ≡ kept_all no_facts list
@@ -123,47 +116,51 @@ facts-first list =
     )
 
 -- facts so far, and what is left to read
-unfoldable pub facts_from : Facts → RunTimeEndian → List ℕ → ℕ → ℕ → ℕ → ℕ → Outcome ReadFacts
+unfoldable pub facts_from : Facts → RunTimeEndian → List ℕ → ℕ → ℕ → ℕ → ℕ → Outcome (Read Facts)
 facts_from f order s pairs pairsEnd at end = do
   v ← values_from order s pairs pairsEnd at end
-  answered (record { facts = kept_all f v.list; next = v.next })
+  answered (record { value = kept_all f v.list; next = v.next })
 
-pub facts-start : (order : RunTimeEndian) (s : List ℕ) (pairs pairsEnd at end : ℕ) → facts_read order s pairs pairsEnd at end ≡ facts_from no_facts order s pairs pairsEnd at end
-unfolding facts_read facts_from
-facts-start order s pairs pairsEnd at end = bind_same (values_from order s pairs pairsEnd at end) _ _ λ v read. rw (facts-first v.list)
+-- at first no fact is kept
+pub facts_start : (f : Facts) (order : RunTimeEndian) (s : List ℕ) (pairs pairsEnd at end : ℕ)
+    → (f.compile_unit ≡ None) × ((f.type_unit ≡ None) × ((f.die_offset ≡ None) × ((f.parent ≡ None) × (f.type_hash ≡ None))))
+    → facts_read order s pairs pairsEnd at end ≡ facts_from f order s pairs pairsEnd at end
+unfolding facts_read facts_from kept_all
+facts_start f order s pairs pairsEnd at end (compile, (types, (die, (up, hash)))) =
+    rw (compile, types, die, up, hash) (bind_same (values_from order s pairs pairsEnd at end) _ _ λ v read. rw (facts-first v.list))
 
 -- one attribute, in the order of the code
 pub facts_step : (f : Facts) (order : RunTimeEndian) (s : List ℕ) (pairs pairsEnd at end : ℕ) → facts_from f order s pairs pairsEnd at end ≡ (do
   p ← pair s pairs pairsEnd
-  cond (eqb p.name 0) (answered (record { facts = f; next = at })) (do
+  cond (eqb p.name 0) (answered (record { value = f; next = at })) (do
     v ← form_value p.form order s at end
     facts_from (with_fact f p.name (kept p.form v.value)) order s p.next pairsEnd v.next end))
 unfolding facts_from kept_all kept_one with_fact
 facts_step f order s pairs pairsEnd at end = rw (turn_step order s pairs pairsEnd at end) (by_pair (pair s pairs pairsEnd))
   where
-    handed : Facts → Values → Outcome ReadFacts
-    handed f v = answered (record { facts = kept_all f v.list; next = v.next })
+    handed : Facts → Values → Outcome (Read Facts)
+    handed f v = answered (record { value = kept_all f v.list; next = v.next })
 
     by_rest : (a : NameAttribute) (o : Outcome Values)
         → ((o >>= λ rest. answered (value_then a.name a.form a.value rest)) >>= handed f) ≡ (o >>= handed (with_fact f a.name (kept a.form a.value)))
     by_rest a (answered rest) = refl
     by_rest a (refused n v) = refl
 
-    by_value : (p : Pair) (o : Outcome Valued)
+    by_value : (p : ReadAttribute) (o : Outcome (Read NameAttributeValue))
         → ((o >>= λ v. values_from order s p.next pairsEnd v.next end >>= λ rest. answered (value_then p.name p.form v.value rest)) >>= handed f)
         ≡ (o >>= λ v. values_from order s p.next pairsEnd v.next end >>= handed (with_fact f p.name (kept p.form v.value)))
     by_value p (answered v) = by_rest (record { name = p.name; form = p.form; value = v.value }) (values_from order s p.next pairsEnd v.next end)
     by_value p (refused n v) = refl
 
-    by_name : (t : Bool) (p : Pair)
+    by_name : (t : Bool) (p : ReadAttribute)
         → (cond t (answered (record { list = []; next = at })) (form_value p.form order s at end >>= λ v. values_from order s p.next pairsEnd v.next end >>= λ rest. answered (value_then p.name p.form v.value rest)) >>= handed f)
-        ≡ cond t (answered (record { facts = f; next = at })) (form_value p.form order s at end >>= λ v. values_from order s p.next pairsEnd v.next end >>= handed (with_fact f p.name (kept p.form v.value)))
+        ≡ cond t (answered (record { value = f; next = at })) (form_value p.form order s at end >>= λ v. values_from order s p.next pairsEnd v.next end >>= handed (with_fact f p.name (kept p.form v.value)))
     by_name true p = refl
     by_name false p = by_value p (form_value p.form order s at end)
 
-    by_pair : (o : Outcome Pair)
+    by_pair : (o : Outcome ReadAttribute)
         → (turn order s at end o (λ p next. values_from order s p.next pairsEnd next end) >>= handed f)
-        ≡ (o >>= λ p. cond (eqb p.name 0) (answered (record { facts = f; next = at })) (form_value p.form order s at end >>= λ v. values_from order s p.next pairsEnd v.next end >>= handed (with_fact f p.name (kept p.form v.value))))
+        ≡ (o >>= λ p. cond (eqb p.name 0) (answered (record { value = f; next = at })) (form_value p.form order s at end >>= λ v. values_from order s p.next pairsEnd v.next end >>= handed (with_fact f p.name (kept p.form v.value))))
     by_pair (answered p) = by_name (eqb p.name 0) p
     by_pair (refused n v) = refl
 
@@ -176,15 +173,15 @@ values_declared_in (suc k) order s pairs pairsEnd a at end e =
     let (p, one, rest) = bind_answered (pair s pairs pairsEnd) _ a e in
     rw one (chosen p (λ b at. values_declared_in k order s p.next pairsEnd b at end) (cond_is (eqb p.name 0) _ _ (answered a) rest))
   where
-    by_value : (p : Pair) (b : Attributes) → attributes_in k s p.next pairsEnd ≡ answered b
+    by_value : (p : ReadAttribute) (b : Attributes) → attributes_in k s p.next pairsEnd ≡ answered b
         → ((b : Attributes) (at : ℕ) → attributes_in k s p.next pairsEnd ≡ answered b → values_in k order s p.next pairsEnd at end ≡ values order s b.list at end)
-        → (o : Outcome Valued)
+        → (o : Outcome (Read NameAttributeValue))
         → (o >>= λ v. values_in k order s p.next pairsEnd v.next end >>= λ rest. answered (value_then p.name p.form v.value rest))
         ≡ (o >>= λ v. values order s b.list v.next end >>= λ rest. answered (value_then p.name p.form v.value rest))
     by_value p b read more (answered v) = rw (more b v.next read)
     by_value p b read more (refused n v) = refl
 
-    chosen : (p : Pair)
+    chosen : (p : ReadAttribute)
         → ((b : Attributes) (at : ℕ) → attributes_in k s p.next pairsEnd ≡ answered b → values_in k order s p.next pairsEnd at end ≡ values order s b.list at end)
         → ((eqb p.name 0 ≡ true) × (answered (record { list = []; next = p.next }) ≡ answered a))
         ⊎ ((eqb p.name 0 ≡ false) × ((attributes_in k s p.next pairsEnd >>= λ rest. answered (before p rest)) ≡ answered a))
@@ -201,10 +198,10 @@ unfolding attributes values_from
 values-declared order s pairs pairsEnd a at end e = values_declared_in (left_at s pairs pairsEnd) order s pairs pairsEnd a at end e
 
 -- so the facts are those of the declaration's attributes
-pub facts-declared : (order : RunTimeEndian) (s : List ℕ) (pairs pairsEnd : ℕ) (a : Attributes) (at end : ℕ) → attributes s pairs pairsEnd ≡ answered a
-    → facts_read order s pairs pairsEnd at end ≡ (values order s a.list at end >>= λ v. answered (record { facts = facts v.list; next = v.next }))
+pub facts_declared : (order : RunTimeEndian) (s : List ℕ) (pairs pairsEnd : ℕ) (a : Attributes) (at end : ℕ) → attributes s pairs pairsEnd ≡ answered a
+    → facts_read order s pairs pairsEnd at end ≡ (values order s a.list at end >>= λ v. answered (record { value = facts v.list; next = v.next }))
 unfolding facts_read
-facts-declared order s pairs pairsEnd a at end e = rw (values-declared order s pairs pairsEnd a at end e)
+facts_declared order s pairs pairsEnd a at end e = rw (values-declared order s pairs pairsEnd a at end e)
 
 pub entry_values_onward : EntryValuesOnward
 unfolding values
@@ -220,46 +217,36 @@ entry_values_onward order s (a ∷ more) at end v inside e =
     (omega arith, omega arith)
 
 pub stands_exactly : StandsExactly
-unfolding first memberb stands_as no_attribute kept
+unfolding first memberb
 stands_exactly name [] = refl
 stands_exactly name (a ∷ more) = by_name (eqb a.name name) refl (stands_exactly name more)
   where
-    stands-kept : (v : NameAttributeValue) → stands (kept a.form v) ≡ true
-    stands-kept (NameAttributeValue.Unsigned n) = refl
-    stands-kept (NameAttributeValue.Offset n) = refl
-    stands-kept (NameAttributeValue.Flag b) = refl
-
     by_name : (same : Bool) → eqb a.name name ≡ same → stands (first name more) ≡ memberb name (map (λ a. a.name) more)
         → stands (first name (a ∷ more)) ≡ memberb name (map (λ a. a.name) (a ∷ more))
-    by_name true e rest = rw (e, eq-eqb _ _ (sym (eqb-true a.name name e))) (stands-kept a.value)
+    by_name true e rest = rw (e, eq-eqb _ _ (sym (eqb-true a.name name e))) refl
     by_name false e rest = rw (e, ne_eqb name a.name (λ q. eqb-false a.name name e (sym q))) rest
 
 -- where there is no attribute of the name, there is no number
-pub no_number : (a : FirstAttribute) → stands a ≡ false → unit_number a ≡ answered UnitNumber.None
-unfolding unit_number unit_number_in stands_as
-no_number a = by_kind a.kind
-  where
-    by_kind : (kind : Kind) → stands_as kind ≡ false → unit_number_in kind a.form a.number ≡ answered UnitNumber.None
-    by_kind Kind.None h = refl
-    by_kind Kind.Unsigned h = absurd (false≢true (sym h))
-    by_kind Kind.Offset h = absurd (false≢true (sym h))
-    by_kind Kind.Flag h = absurd (false≢true (sym h))
+pub no_number : (a : Option FirstAttribute) → stands a ≡ false → unit_number a ≡ answered None
+unfolding unit_number
+no_number None h = refl
+no_number (Some a) h = absurd (false≢true (sym h))
 
 -- the answer is some, and not none; or it is a refusal
 abbrev pub SomeOrRefused : {A B : Type 0} → (B → A) → Outcome A → Type 0
 SomeOrRefused {A} {B} some o = ((b : B) × (o ≡ answered (some b))) ⊎ ((n v : ℕ) × (o ≡ refused n v))
 
 -- where there is one, it has a number or is refused
-pub some_number : (a : FirstAttribute) → stands a ≡ true → SomeOrRefused UnitNumber.Some (unit_number a)
-unfolding unit_number unit_number_in stands_as
-some_number a = by_kind a.kind
+pub some_number : (a : Option FirstAttribute) → stands a ≡ true → SomeOrRefused Some (unit_number a)
+unfolding unit_number unit_number_in
+some_number None h = absurd (false≢true h)
+some_number (Some a) h = by_value a.value
   where
-    by_size : (beyond : Bool) → SomeOrRefused UnitNumber.Some (cond beyond (refused 11 a.number) (answered (UnitNumber.Some a.number)))
-    by_size true = inr (11, a.number, refl)
-    by_size false = inl (a.number, refl)
+    by_size : (n : ℕ) (beyond : Bool) → SomeOrRefused Some (cond beyond (refused 11 n) (answered (Some n)))
+    by_size n true = inr (11, n, refl)
+    by_size n false = inl (n, refl)
 
-    by_kind : (kind : Kind) → stands_as kind ≡ true → SomeOrRefused UnitNumber.Some (unit_number_in kind a.form a.number)
-    by_kind Kind.None h = absurd (false≢true h)
-    by_kind Kind.Unsigned h = by_size (ltb 4294967295 a.number)
-    by_kind Kind.Offset h = inr (12, a.form, refl)
-    by_kind Kind.Flag h = inr (12, a.form, refl)
+    by_value : (value : NameAttributeValue) → SomeOrRefused Some (unit_number_in a.form value)
+    by_value (NameAttributeValue.Unsigned n) = by_size n (ltb 4294967295 n)
+    by_value (NameAttributeValue.Offset n) = inr (12, a.form, refl)
+    by_value (NameAttributeValue.Flag b) = inr (12, a.form, refl)

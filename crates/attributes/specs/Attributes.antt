@@ -1,16 +1,15 @@
 -- The attributes of an entry: document 01, "Entries and attributes"; DWARF 5, section 6.1.1.4.8. `s` is the section; values are read
 -- from the place `at` on, in a part up to `end`.
-use Rattle.std.specs.Prelude.{ℕ, zero, suc, cond, List, [], ◌∷◌, eqb}
+use Rattle.std.specs.Prelude.{ℕ, zero, suc, cond, List, [], ◌∷◌, eqb, Option, Some, None}
 use Rattle.reader.specs.Outcome.{Outcome, answered, refused, ◌>>=◌}
 use Rattle.reader.specs.Parts.{left_at}
 use Rattle.reader.specs.declared.endianity.RunTimeEndian.{RunTimeEndian}
 use Rattle.abbreviations.specs.Abbreviations.{Attribute, pair}
 use Rattle.forms.specs.declared.NameAttributeValue.{NameAttributeValue}
 use Rattle.forms.specs.Forms.{form_value}
-use Rattle.attributes.specs.declared.attribute.Kind.{Kind}
 use Rattle.attributes.specs.declared.attribute.FirstAttribute.{FirstAttribute}
 use Rattle.attributes.specs.declared.facts.Facts.{Facts}
-use Rattle.attributes.specs.declared.facts.ReadFacts.{ReadFacts}
+use Rattle.reader.specs.declared.reader.Read.{Read}
 
 -- an attribute: its name, its form and its value
 pub record NameAttribute : Type 0 where
@@ -35,20 +34,14 @@ values order s (a ∷ more) at end = do
   rest ← values order s more v.next end
   answered (value_then a.name a.form v.value rest)
 
--- what is kept of an attribute: its form, the kind of its value, and its number, which is 1 for a flag that is true and 0 for one that
--- is false
-unfoldable pub kept : ℕ → NameAttributeValue → FirstAttribute
-kept form (NameAttributeValue.Unsigned n) = record { form = form; kind = Kind.Unsigned; number = n }
-kept form (NameAttributeValue.Offset n) = record { form = form; kind = Kind.Offset; number = n }
-kept form (NameAttributeValue.Flag b) = record { form = form; kind = Kind.Flag; number = cond b 1 0 }
+-- what is kept of an attribute: its form and its value
+abbrev pub kept : ℕ → NameAttributeValue → FirstAttribute
+kept form value = record { form = form; value = value }
 
-unfoldable pub no_attribute : FirstAttribute
-no_attribute = record { form = 0; kind = Kind.None; number = 0 }
-
--- the first attribute of a name
-unfoldable pub first : ℕ → List NameAttribute → FirstAttribute
-first name [] = no_attribute
-first name (a ∷ more) = cond (eqb a.name name) (kept a.form a.value) (first name more)
+-- the first attribute of a name, if there is one
+unfoldable pub first : ℕ → List NameAttribute → Option FirstAttribute
+first name [] = None
+first name (a ∷ more) = cond (eqb a.name name) (Some (kept a.form a.value)) (first name more)
 
 -- the five names
 abbrev pub compile_unit_name : ℕ
@@ -93,22 +86,17 @@ unfoldable pub values_from : RunTimeEndian → List ℕ → ℕ → ℕ → ℕ 
 values_from order s pairs pairsEnd at end = values_in (left_at s pairs pairsEnd) order s pairs pairsEnd at end
 
 -- the facts of these, and the place past them
-unfoldable pub facts_read : RunTimeEndian → List ℕ → ℕ → ℕ → ℕ → ℕ → Outcome ReadFacts
+unfoldable pub facts_read : RunTimeEndian → List ℕ → ℕ → ℕ → ℕ → ℕ → Outcome (Read Facts)
 facts_read order s pairs pairsEnd at end = do
   v ← values_from order s pairs pairsEnd at end
-  answered (record { facts = facts v.list; next = v.next })
+  answered (record { value = facts v.list; next = v.next })
 
 -- facts that were kept, with one more attribute: it counts where it is the first of its name
-unfoldable pub or_else_by : Kind → FirstAttribute → FirstAttribute → FirstAttribute
-or_else_by Kind.None f b = b
-or_else_by Kind.Unsigned f b = f
-or_else_by Kind.Offset f b = f
-or_else_by Kind.Flag f b = f
+abbrev pub or_else : Option FirstAttribute → FirstAttribute → Option FirstAttribute
+or_else None b = Some b
+or_else (Some a) b = Some a
 
-unfoldable pub or_else : FirstAttribute → FirstAttribute → FirstAttribute
-or_else f b = or_else_by f.kind f b
-
-abbrev pub with_one : ℕ → FirstAttribute → ℕ → FirstAttribute → FirstAttribute
+abbrev pub with_one : ℕ → Option FirstAttribute → ℕ → FirstAttribute → Option FirstAttribute
 with_one wanted f name a = cond (eqb name wanted) (or_else f a) f
 
 unfoldable pub with_fact : Facts → ℕ → FirstAttribute → Facts
@@ -120,5 +108,5 @@ with_fact f name a = record {
   type_hash = with_one type_hash_name f.type_hash name a;
 }
 
-unfoldable pub no_facts : Facts
-no_facts = record { compile_unit = no_attribute; type_unit = no_attribute; die_offset = no_attribute; parent = no_attribute; type_hash = no_attribute }
+abbrev pub no_facts : Facts
+no_facts = record { compile_unit = None; type_unit = None; die_offset = None; parent = None; type_hash = None }

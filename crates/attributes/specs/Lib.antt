@@ -1,6 +1,5 @@
 -- What each call of the crate answers. Attributes: the values of an entry's attributes, and the first of each name. Meaning: what such
--- an attribute says. Answers: the outcome of each answer. Sanity: what is proved of these.
+-- an attribute says. Sanity: what is proved of these.
 pub mod Attributes
 pub mod Meaning
-pub mod Answers
 pub mod Sanity

@@ -1,12 +1,11 @@
 -- What a reader of the definitions, and the crates above, may want to be sure of. The laws of proofs/AttributeLaws.antt that have these
 -- types prove them.
-use Rattle.std.specs.Prelude.{ℕ, ◌≤◌, ◌≡◌, Bool, true, false, List, map}
+use Rattle.std.specs.Prelude.{ℕ, ◌≤◌, ◌≡◌, Bool, true, false, List, map, Option, Some, None}
 use Rattle.reader.specs.Outcome.{answered}
 use Rattle.reader.specs.Parts.{part_end}
 use Rattle.reader.specs.Lists.{memberb}
 use Rattle.reader.specs.declared.endianity.RunTimeEndian.{RunTimeEndian}
 use Rattle.abbreviations.specs.Abbreviations.{Attribute, Attributes, attributes}
-use Rattle.attributes.specs.declared.attribute.Kind.{Kind}
 use Rattle.attributes.specs.declared.attribute.FirstAttribute.{FirstAttribute}
 use Rattle.attributes.specs.Attributes.{NameAttribute, Values, values, first, values_from}
 
@@ -23,14 +22,9 @@ EntryValuesOnward =
     → (at ≤ v.next) × (v.next ≤ part_end s end)
 
 -- whether there is a first attribute of a name, in any form
-unfoldable pub stands_as : Kind → Bool
-stands_as Kind.None = false
-stands_as Kind.Unsigned = true
-stands_as Kind.Offset = true
-stands_as Kind.Flag = true
-
-abbrev pub stands : FirstAttribute → Bool
-stands a = stands_as a.kind
+abbrev pub stands : Option FirstAttribute → Bool
+stands None = false
+stands (Some a) = true
 
 -- there is one exactly if the name is among those of the entry's attributes
 abbrev pub StandsExactly : Type 0

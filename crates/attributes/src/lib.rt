@@ -6,11 +6,6 @@ pub mod attribute; // what is kept of an attribute, and what it says
 pub mod facts; // the first attribute of each name, kept in one pass
 pub mod units; // the unit that an attribute names
 
-pub use attribute::{
-    DieOffset, DieOffsetRead, EntryParent, FirstAttribute, Kind, ParentRead, TypeHash,
-    TypeHashRead, UnitNumber, UnitNumberRead, die_offset, parent, type_hash, unit_number,
-};
-pub use facts::{Facts, FactsRead, ReadFacts, read_facts};
-pub use units::{
-    EntryTypeUnit, EntryTypeUnitRead, EntryUnit, EntryUnitRead, compile_unit, type_unit,
-};
+pub use attribute::{EntryParent, FirstAttribute, die_offset, parent, type_hash, unit_number};
+pub use facts::{Facts, read_facts};
+pub use units::{compile_unit, type_unit};

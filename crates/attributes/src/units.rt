@@ -1,82 +1,41 @@
 // The unit that an attribute names (gimli's `NameAttribute::compile_unit` and `NameAttribute::type_unit`): its number, which is then
-// resolved in the index. It stands apart from the attribute, so that a walk over parents meets no refusal of a unit.
+// resolved in the index. The two calls differ in what they read and answer, and share `unit_number`. The unit stands apart from the attribute, so that a walk over parents meets no refusal of a unit.
+// (order, section, index) stay parameters: with a struct that lends the section, contracts are no plainer (docs/DECISIONS.md).
 ghost use Rattle.std.specs.Prelude.{◌≡◌};
-ghost use Rattle.attributes.specs.Answers.{entry_unit_outcome, entry_type_unit_outcome};
+ghost use Rattle.reader.specs.Answers.{outcome};
 ghost use Rattle.attributes.specs.Meaning.{compile_unit_of, type_unit_of};
 
-use crate::attribute::{FirstAttribute, UnitNumber, UnitNumberRead, unit_number};
+use crate::attribute::{FirstAttribute, unit_number};
 use index::NameIndex;
-use names::{NameTypeUnit, TypeUnitRead, UnitRead};
+use names::NameTypeUnit;
 use reader::{DebugInfoOffset, Error, RunTimeEndian};
 
-// The compile unit that an entry names, or none.
-#[derive(Clone, Copy)]
-pub enum EntryUnit {
-    Some(DebugInfoOffset),
-    None,
-}
-
-#[derive(Clone, Copy)]
-pub enum EntryUnitRead {
-    Value(EntryUnit),
-    Refused(Error),
-}
-
-// The type unit that an entry names, or none.
-#[derive(Clone, Copy)]
-pub enum EntryTypeUnit {
-    Some(NameTypeUnit),
-    None,
-}
-
-#[derive(Clone, Copy)]
-pub enum EntryTypeUnitRead {
-    Value(EntryTypeUnit),
-    Refused(Error),
-}
-
 // The compile unit: the index's unit of that number.
+#[tactic(auto, unfolding(crate::specs::Meaning::compile_unit_of, crate::specs::Meaning::numbered_unit))]
 pub fn compile_unit(
     order: RunTimeEndian,
     section: &[u8],
     index: NameIndex,
-    first: FirstAttribute,
-) -> EntryUnitRead
-    ensures { entry_unit_outcome result ≡ compile_unit_of order section.now index first }
+    first: Option<FirstAttribute>,
+) -> Result<Option<DebugInfoOffset>, Error>
+    ensures { outcome result ≡ compile_unit_of order section.now index first }
 {
-    let unit = match unit_number(first) {
-        UnitNumberRead::Value(u) => u,
-        UnitNumberRead::Refused(e) => return EntryUnitRead::Refused(e),
-    };
-    let number = match unit {
-        UnitNumber::Some(n) => n,
-        UnitNumber::None => return EntryUnitRead::Value(EntryUnit::None),
-    };
-    match names::compile_unit(order, section, index, number) {
-        UnitRead::Value(u) => EntryUnitRead::Value(EntryUnit::Some(u)),
-        UnitRead::Refused(e) => EntryUnitRead::Refused(e),
-    }
+    unit_number(first)?
+        .map(|number| names::compile_unit(order, section, index, number))
+        .transpose()
 }
 
 // The type unit: the index's type unit of that number, local ones first.
+#[tactic(auto, unfolding(crate::specs::Meaning::type_unit_of, crate::specs::Meaning::numbered_type_unit))]
 pub fn type_unit(
     order: RunTimeEndian,
     section: &[u8],
     index: NameIndex,
-    first: FirstAttribute,
-) -> EntryTypeUnitRead
-    ensures { entry_type_unit_outcome result ≡ type_unit_of order section.now index first }
+    first: Option<FirstAttribute>,
+) -> Result<Option<NameTypeUnit>, Error>
+    ensures { outcome result ≡ type_unit_of order section.now index first }
 {
-    let unit = match unit_number(first) {
-        UnitNumberRead::Value(u) => u,
-        UnitNumberRead::Refused(e) => return EntryTypeUnitRead::Refused(e),
-    };
-    let number = match unit {
-        UnitNumber::Some(n) => n,
-        UnitNumber::None => return EntryTypeUnitRead::Value(EntryTypeUnit::None),
-    };
-    match names::type_unit(order, section, index, number) {
-        TypeUnitRead::Value(u) => EntryTypeUnitRead::Value(EntryTypeUnit::Some(u)),
-        TypeUnitRead::Refused(e) => EntryTypeUnitRead::Refused(e),
-    }
+    unit_number(first)?
+        .map(|number| names::type_unit(order, section, index, number))
+        .transpose()
 }

@@ -1,14 +1,52 @@
 // The bytes of a part.
-use crate::{Numbers, between, find, letter};
+use crate::{Numbers, letter};
 
 // The bytes of a section, and zeros behind them.
 pub type Bytes = [u8; 512];
 
-// How far the bytes have been read: how many digits, two for each byte; and whether what follows is text.
+// How far the bytes have been read: how many digits, two for each byte; and whether what follows is text. (No value goes with the flag: an enum is no plainer.)
 #[derive(Clone, Copy)]
 struct Reading {
     digits: usize,
     quoted: bool,
+}
+
+impl Reading {
+    // The bytes of the section with which a text begins, behind those that were read: up to a line that does not begin with a space. A remark
+    // may stand behind those of each line.
+    fn section(&mut self, text: &[u8], to: &mut Bytes) {
+        for (n, line) in text.split(|b| *b == b'\n').enumerate() {
+            if 0 < n && letter(line, 0) != b' ' {
+                return;
+            }
+            for byte in line.iter().take_while(|b| **b != b'#') {
+                self.push(*byte, to);
+            }
+        }
+    }
+
+    // One more byte of the text: a hexadecimal digit, a quote, or text between two quotes. The digits are counted by hand, since two make a
+    // byte, a byte of text stands for two, and spaces stand between.
+    fn push(&mut self, byte: u8, to: &mut Bytes) {
+        let at = self.digits;
+        if 1022 < at {
+            return;
+        }
+        if byte == b'\'' {
+            self.quoted = !self.quoted;
+        } else if self.quoted {
+            to[at / 2] = byte;
+            self.digits += 2;
+        } else {
+            let digit = match byte {
+                b'0'..=b'9' => byte - b'0',
+                b'a'..=b'f' => byte - b'a' + 10,
+                _ => return,
+            };
+            to[at / 2] = 16 * (to[at / 2] % 16) + digit;
+            self.digits += 1;
+        }
+    }
 }
 
 // The bytes of a part, and how many there are.
@@ -17,97 +55,43 @@ pub fn bytes_of(text: &[u8], part: &[u8], to: &mut Bytes) -> usize {
         digits: 0,
         quoted: false,
     };
-    for at in 0..part.len() {
-        let byte = part[at];
-        if b'A' <= byte && byte <= b'Z' && !read.quoted {
-            read = section(text, start(text, byte), read, to);
+    for byte in part {
+        if byte.is_ascii_uppercase() && !read.quoted {
+            read.section(from_name(text, *byte), to);
         } else {
-            read = with(read, byte, to);
+            read.push(*byte, to);
         }
     }
     read.digits / 2
 }
 
-// Where the bytes of the section with this name begin.
-fn start(text: &[u8], name: u8) -> usize {
-    for at in 1..text.len() {
-        if text[at - 1] == b'=' && text[at] == name {
-            return at;
-        }
-    }
-    text.len()
+// The text from where the section with this name begins.
+fn from_name(text: &[u8], name: u8) -> &[u8] {
+    text.windows(2)
+        .position(|pair| pair == [b'=', name].as_slice())
+        .map_or(b"", |at| &text[at + 1..])
 }
 
 // The line that says what a name stands for, from the name on.
-pub fn named<'a>(text: &'a [u8], name: u8) -> &'a [u8] {
-    let from = start(text, name);
-    between(text, from, find(text, b'\n', from, 0))
-}
-
-// The bytes of the section that begins at a place, behind those that were read: up to a line that does not begin with a space. A remark may
-// stand behind those of each line.
-fn section(text: &[u8], from: usize, before: Reading, to: &mut Bytes) -> Reading {
-    let mut read = before;
-    let mut remark = false;
-    for at in from..text.len() {
-        let byte = text[at];
-        if byte == b'#' {
-            remark = true;
-        }
-        if byte == b'\n' {
-            remark = false;
-            if letter(text, at + 1) != b' ' {
-                return read;
-            }
-        }
-        if !remark {
-            read = with(read, byte, to);
-        }
-    }
-    read
-}
-
-// With one more byte of the text: a hexadecimal digit, a quote, or text between two quotes.
-fn with(read: Reading, byte: u8, to: &mut Bytes) -> Reading {
-    let at = read.digits;
-    let digit = digit_of(byte);
-    let mut next = read;
-    if 1022 < at {
-        return next;
-    }
-    let half = to[at / 2];
-    if byte == b'\'' {
-        next.quoted = !read.quoted;
-    } else if read.quoted {
-        to[at / 2] = byte;
-        next.digits = at + 2;
-    } else if digit < 16 {
-        to[at / 2] = 16 * (half % 16) + digit;
-        next.digits = at + 1;
-    }
-    next
-}
-
-// The value of a hexadecimal digit; 16 for another byte.
-fn digit_of(byte: u8) -> u8 {
-    match byte {
-        b'0'..=b'9' => byte - b'0',
-        b'a'..=b'f' => byte - b'a' + 10,
-        _ => 16,
-    }
+pub fn named(text: &[u8], name: u8) -> &[u8] {
+    from_name(text, name)
+        .split(|b| *b == b'\n')
+        .next()
+        .unwrap_or(b"")
 }
 
 // Puts the bytes of the changes at their places.
 pub fn changed(to: &mut Bytes, changes: Numbers) {
-    for n in 0..12 {
-        let place = changes.get(2 * n);
-        if 2 * n + 1 < changes.count && place < 512 {
-            to[place as usize] = (changes.get(2 * n + 1) % 256) as u8;
+    for change in changes.values.chunks_exact(2) {
+        if let [Some(place), Some(value)] = change
+            && let Some(byte) = to.get_mut(*place as usize)
+        {
+            *byte = (value % 256) as u8;
         }
     }
 }
 
 // The first of the bytes.
-pub fn first<'a>(bytes: &'a Bytes, len: usize) -> &'a [u8] {
-    between(&bytes[..], 0, len)
+pub fn first(bytes: &Bytes, len: usize) -> &[u8] {
+    bytes.get(..len).unwrap_or(b"")
 }

@@ -18,81 +18,65 @@ mod numbers; // the numbers of a part
 pub use bytes::{Bytes, bytes_of, changed, first, named};
 pub use numbers::{Numbers, numbers_of};
 use reader::{Format, RunTimeEndian};
-use std::num::wrapping_add_usize;
 
 // The case that begins at a place of the text; nothing where no line begins there. What is no case has a first letter that no program knows.
-pub fn case_at<'a>(text: &'a [u8], at: usize) -> &'a [u8] {
-    if 0 < at {
-        if letter(text, at - 1) != b'\n' {
-            return between(text, 0, 0);
-        }
+pub fn case_at(text: &[u8], at: usize) -> &[u8] {
+    if 0 < at && letter(text, at - 1) != b'\n' {
+        return b"";
     }
     between(text, at, find(text, b'\n', at, 0))
 }
 
 // The place of a byte behind so many others of its kind, from a place on; the end of the text where there is none.
 pub fn find(text: &[u8], byte: u8, from: usize, others: usize) -> usize {
-    let mut left = others;
-    for at in from..text.len() {
-        if text[at] == byte {
-            if left == 0 {
-                return at;
-            }
-            left = left - 1;
-        }
-    }
-    text.len()
+    text.iter()
+        .enumerate()
+        .skip(from)
+        .filter(|(_, b)| **b == byte)
+        .nth(others)
+        .map_or(text.len(), |(at, _)| at)
 }
 
 // The text from a place to another; nothing where it has no such part.
-pub fn between<'a>(text: &'a [u8], from: usize, end: usize) -> &'a [u8] {
-    if text.len() < end {
-        return &text[0..0];
-    }
-    if end < from {
-        return &text[0..0];
-    }
-    &text[from..end]
+pub fn between(text: &[u8], from: usize, end: usize) -> &[u8] {
+    text.get(from..end).unwrap_or(b"")
 }
 
 // The byte at a place, or a space where there is none.
 pub fn letter(text: &[u8], at: usize) -> u8 {
-    if at < text.len() {
-        return text[at];
-    }
-    b' '
+    text.get(at).copied().unwrap_or(b' ')
 }
 
 // The part behind so many semicolons, without the space before it.
-pub fn part<'a>(line: &'a [u8], number: usize) -> &'a [u8] {
-    let end = find(line, b';', 0, number);
+pub fn part(line: &[u8], number: usize) -> &[u8] {
+    let part = line.split(|b| *b == b';').nth(number).unwrap_or(b"");
     if number == 0 {
-        return between(line, 0, end);
+        return part;
     }
-    let from = wrapping_add_usize(find(line, b';', 0, number - 1), 1);
-    if letter(line, from) == b' ' {
-        return between(line, wrapping_add_usize(from, 1), end);
-    }
-    between(line, from, end)
+    part.strip_prefix(b" ").unwrap_or(part)
 }
 
 // The name of a case, which stands behind its letters and a space.
-pub fn title<'a>(line: &'a [u8]) -> &'a [u8] {
-    let from = wrapping_add_usize(find(line, b' ', 0, 0), 1);
-    between(line, from, find(line, b';', 0, 0))
+pub fn title(line: &[u8]) -> &[u8] {
+    part(line, 0)
+        .splitn(2, |b| *b == b' ')
+        .nth(1)
+        .unwrap_or(b"")
 }
 
-// The byte order, and the format, that a letter stands for: B for big-endian, 6 for 64-bit.
+// The byte order, and the format, that a letter stands for: B for big-endian, 6 for 64-bit. (Of types of another crate, so no `From`.)
 pub fn order_of(letter: u8) -> RunTimeEndian {
     if letter == b'B' {
-        return RunTimeEndian::Big;
+        RunTimeEndian::Big
+    } else {
+        RunTimeEndian::Little
     }
-    RunTimeEndian::Little
 }
 
 pub fn format_of(letter: u8) -> Format {
     if letter == b'6' {
-        return Format::Dwarf64;
+        Format::Dwarf64
+    } else {
+        Format::Dwarf32
     }
-    Format::Dwarf32
 }

@@ -1,11 +1,12 @@
-// The counts of an index that fits its section.
+// The counts of an index that fits its section. Each is an exported function of its own, since C knows no generic one.
 ghost use Rattle.std.specs.Prelude.{◌≡◌};
 ghost use Rattle.names.specs.Counts.{compile_unit_count_of, local_type_unit_count_of, foreign_type_unit_count_of, type_unit_count, bucket_count_of, name_count_of, has_hash_table};
 ghost use Rattle.handles.specs.Handles.{index_from};
 ghost use Rattle.answers.specs.Answers.{handed, count_answer, flag_answer};
 
 use answers::{Answer, count_answer, flag_answer};
-use handles::{IndexHandle, index_of};
+use handles::IndexHandle;
+use index::NameIndex;
 use names::{
     bucket_count, compile_unit_count, foreign_type_unit_count, has_hash_table,
     local_type_unit_count, name_count, type_unit_count,
@@ -16,7 +17,7 @@ use names::{
 pub extern "C" fn debug_names_compile_unit_count(section: &[u8], index: IndexHandle) -> Answer
     ensures { result ≡ handed count_answer (compile_unit_count_of section.now (index_from index)) }
 {
-    count_answer(compile_unit_count(section, index_of(index)))
+    count_answer(compile_unit_count(section, NameIndex::from(index)))
 }
 
 // The number of local type units.
@@ -24,7 +25,7 @@ pub extern "C" fn debug_names_compile_unit_count(section: &[u8], index: IndexHan
 pub extern "C" fn debug_names_local_type_unit_count(section: &[u8], index: IndexHandle) -> Answer
     ensures { result ≡ handed count_answer (local_type_unit_count_of section.now (index_from index)) }
 {
-    count_answer(local_type_unit_count(section, index_of(index)))
+    count_answer(local_type_unit_count(section, NameIndex::from(index)))
 }
 
 // The number of foreign type units.
@@ -32,7 +33,7 @@ pub extern "C" fn debug_names_local_type_unit_count(section: &[u8], index: Index
 pub extern "C" fn debug_names_foreign_type_unit_count(section: &[u8], index: IndexHandle) -> Answer
     ensures { result ≡ handed count_answer (foreign_type_unit_count_of section.now (index_from index)) }
 {
-    count_answer(foreign_type_unit_count(section, index_of(index)))
+    count_answer(foreign_type_unit_count(section, NameIndex::from(index)))
 }
 
 // The number of type units, local and foreign.
@@ -40,7 +41,7 @@ pub extern "C" fn debug_names_foreign_type_unit_count(section: &[u8], index: Ind
 pub extern "C" fn debug_names_type_unit_count(section: &[u8], index: IndexHandle) -> Answer
     ensures { result ≡ handed count_answer (type_unit_count section.now (index_from index)) }
 {
-    count_answer(type_unit_count(section, index_of(index)))
+    count_answer(type_unit_count(section, NameIndex::from(index)))
 }
 
 // The number of buckets.
@@ -48,7 +49,7 @@ pub extern "C" fn debug_names_type_unit_count(section: &[u8], index: IndexHandle
 pub extern "C" fn debug_names_bucket_count(section: &[u8], index: IndexHandle) -> Answer
     ensures { result ≡ handed count_answer (bucket_count_of section.now (index_from index)) }
 {
-    count_answer(bucket_count(section, index_of(index)))
+    count_answer(bucket_count(section, NameIndex::from(index)))
 }
 
 // The number of names.
@@ -56,7 +57,7 @@ pub extern "C" fn debug_names_bucket_count(section: &[u8], index: IndexHandle) -
 pub extern "C" fn debug_names_name_count(section: &[u8], index: IndexHandle) -> Answer
     ensures { result ≡ handed count_answer (name_count_of section.now (index_from index)) }
 {
-    count_answer(name_count(section, index_of(index)))
+    count_answer(name_count(section, NameIndex::from(index)))
 }
 
 // Whether the index has a hash table.
@@ -64,5 +65,5 @@ pub extern "C" fn debug_names_name_count(section: &[u8], index: IndexHandle) -> 
 pub extern "C" fn debug_names_has_hash_table(section: &[u8], index: IndexHandle) -> Answer
     ensures { result ≡ handed flag_answer (has_hash_table section.now (index_from index)) }
 {
-    flag_answer(has_hash_table(section, index_of(index)))
+    flag_answer(has_hash_table(section, NameIndex::from(index)))
 }

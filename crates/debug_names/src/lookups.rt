@@ -1,4 +1,5 @@
 // The hash table: lookups by bucket and by hash, their steps, and the table check (document 01, "Buckets and hashes").
+// (order, section, index) stay parameters, which C hands over one by one.
 ghost use Rattle.std.specs.Prelude.{◌≡◌};
 ghost use Rattle.hashes.specs.Lookups.{bucket_cursor, find_by_bucket, find_by_hash, bucket_step, hash_step};
 ghost use Rattle.tables.specs.Check.{table_check};
@@ -7,8 +8,9 @@ ghost use Rattle.answers.specs.Answers.{handed, bucket_answer};
 ghost use Rattle.step_answers.specs.Steps.{bucket_step_answer, hash_answer, hash_step_answer, table_answer};
 
 use answers::{Answer, bucket_answer};
-use handles::{HashCursor, IndexHandle, index_of, iter_of, order_of};
-use hashes::{NameBucketIter, find_by_bucket, find_by_hash};
+use handles::{HashCursor, IndexHandle, order_of};
+use hashes::{NameBucketIter, NameHashIter, find_by_bucket, find_by_hash};
+use index::NameIndex;
 use reader::NameTableIndex;
 use step_answers::{
     BucketAnswer, HashAnswer, TableAnswer, bucket_step_answer, hash_answer, hash_step_answer,
@@ -26,7 +28,7 @@ pub extern "C" fn debug_names_find_by_bucket(
 ) -> Answer
     ensures { result ≡ handed bucket_answer (find_by_bucket (order_of order) section.now (index_from index) bucket) }
 {
-    bucket_answer(find_by_bucket(order_of(order), section, index_of(index), bucket))
+    bucket_answer(find_by_bucket(order_of(order), section, NameIndex::from(index), bucket))
 }
 
 // The next name of a bucket, from a name on.
@@ -44,7 +46,7 @@ pub extern "C" fn debug_names_next_in_bucket(
         name_table_index: NameTableIndex(name),
         bucket_index: bucket,
     };
-    bucket_step_answer(cursor.next(order_of(order), section, index_of(index)))
+    bucket_step_answer(cursor.next(order_of(order), section, NameIndex::from(index)))
 }
 
 // The cursor over the names that store a hash.
@@ -57,7 +59,7 @@ pub extern "C" fn debug_names_find_by_hash(
 ) -> HashAnswer
     ensures { result ≡ hash_answer (find_by_hash (order_of order) section.now (index_from index) hash) }
 {
-    hash_answer(find_by_hash(order_of(order), section, index_of(index), hash))
+    hash_answer(find_by_hash(order_of(order), section, NameIndex::from(index), hash))
 }
 
 // The next name that stores the hash.
@@ -70,8 +72,8 @@ pub extern "C" fn debug_names_next_by_hash(
 ) -> HashAnswer
     ensures { result ≡ hash_step_answer (hash_step (order_of order) section.now (index_from index) (iter_from cursor)) }
 {
-    let at = iter_of(cursor);
-    hash_step_answer(at.next(order_of(order), section, index_of(index)))
+    let names = NameHashIter::from(cursor);
+    hash_step_answer(names.next(order_of(order), section, NameIndex::from(index)))
 }
 
 // Whether lookups by hash list every name, and where they do not, how many are missed, the smallest of their numbers, and the hash that is stored
@@ -84,5 +86,5 @@ pub extern "C" fn debug_names_check_table(
 ) -> TableAnswer
     ensures { result ≡ table_answer (table_check (order_of order) section.now (index_from index)) }
 {
-    table_answer(check_table(order_of(order), section, index_of(index)))
+    table_answer(check_table(order_of(order), section, NameIndex::from(index)))
 }

@@ -1,4 +1,5 @@
 // The strings of names (document 01, "Headers and layout" and "Strings").
+// (order, section, index) stay parameters, which C hands over one by one.
 ghost use Rattle.std.specs.Prelude.{◌≡◌};
 ghost use Rattle.strings.specs.Strings.{get_str};
 ghost use Rattle.names.specs.Names.{name_string_offset, name_string};
@@ -7,7 +8,8 @@ ghost use Rattle.answers.specs.Answers.{handed, str_offset_answer};
 ghost use Rattle.step_answers.specs.Steps.{string_answer};
 
 use answers::{Answer, str_offset_answer};
-use handles::{IndexHandle, index_of, order_of};
+use handles::{IndexHandle, order_of};
+use index::NameIndex;
 use names::{name_string, name_string_offset};
 use reader::{DebugStrOffset, NameTableIndex};
 use step_answers::{StringAnswer, string_answer};
@@ -26,7 +28,7 @@ pub extern "C" fn debug_names_name_string_offset(
     str_offset_answer(name_string_offset(
         order_of(order),
         section,
-        index_of(index),
+        NameIndex::from(index),
         NameTableIndex(name),
     ))
 }
@@ -46,7 +48,7 @@ pub extern "C" fn debug_names_name_string(
         order_of(order),
         section,
         strings,
-        index_of(index),
+        NameIndex::from(index),
         NameTableIndex(name),
     ))
 }

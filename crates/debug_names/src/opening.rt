@@ -7,7 +7,7 @@ ghost use Rattle.answers.specs.Answers.{handed, open_answer};
 ghost use Rattle.step_answers.specs.Steps.{header_answer, header_facts};
 
 use answers::{Answer, open_answer};
-use handles::{IndexHandle, header_for, index_of, order_of};
+use handles::{IndexHandle, header_for, order_of};
 use headers::NameIndexHeaderIter;
 use index::NameIndex;
 use step_answers::{HeaderAnswer, HeaderFacts, header_answer, header_facts};
@@ -17,8 +17,7 @@ use step_answers::{HeaderAnswer, HeaderFacts, header_answer, header_facts};
 pub extern "C" fn debug_names_next_header(order: u32, section: &[u8], at: usize) -> HeaderAnswer
     ensures { result ≡ header_answer (header_step (order_of order) section.now (record { at = at })) }
 {
-    let cursor = NameIndexHeaderIter { at: at };
-    header_answer(cursor.next(order_of(order), section))
+    header_answer(NameIndexHeaderIter { at }.next(order_of(order), section))
 }
 
 // What else the header at a place says.
@@ -26,8 +25,11 @@ pub extern "C" fn debug_names_next_header(order: u32, section: &[u8], at: usize)
 pub extern "C" fn debug_names_header_at(order: u32, section: &[u8], at: usize) -> HeaderFacts
     ensures { result ≡ header_facts (header_step (order_of order) section.now (record { at = at })).answer }
 {
-    let cursor = NameIndexHeaderIter { at: at };
-    header_facts(cursor.next(order_of(order), section))
+    header_facts(
+        NameIndexHeaderIter { at }
+            .next(order_of(order), section)
+            .answer,
+    )
 }
 
 // Opens the index that a header describes.
@@ -35,5 +37,5 @@ pub extern "C" fn debug_names_header_at(order: u32, section: &[u8], at: usize) -
 pub extern "C" fn debug_names_open(section: &[u8], index: IndexHandle) -> Answer
     ensures { result ≡ handed open_answer (name_index section.now (header_for (index_from index))) }
 {
-    open_answer(NameIndex::new(section, header_for(index_of(index))))
+    open_answer(NameIndex::new(section, header_for(NameIndex::from(index))))
 }

@@ -1,5 +1,6 @@
 // The entries of a name, and an entry by its handle, each with its five facts (document 01, "Entries and attributes"). One pass over an
 // entry tells all of them.
+// (order, section, index) stay parameters, which C hands over one by one.
 ghost use Rattle.std.specs.Prelude.{◌≡◌};
 ghost use Rattle.entries.specs.Series.{name_entries};
 ghost use Rattle.handles.specs.Handles.{order_of, index_from};
@@ -9,7 +10,8 @@ ghost use Rattle.entry_answers.specs.Entry.{entry_answer, entry_step_answer};
 use answers::{Answer, entries_answer};
 use entries::{NameEntryIter, name_entries, whole_entry};
 use entry_answers::{EntryAnswer, entry_answer, entry_step_answer};
-use handles::{IndexHandle, index_of, order_of};
+use handles::{IndexHandle, order_of};
+use index::NameIndex;
 use reader::{NameEntryOffset, NameTableIndex};
 
 // The cursor before the first entry of a name.
@@ -25,12 +27,13 @@ pub extern "C" fn debug_names_name_entries(
     entries_answer(name_entries(
         order_of(order),
         section,
-        index_of(index),
+        NameIndex::from(index),
         NameTableIndex(name),
     ))
 }
 
 // The next entry, from a cursor.
+#[tactic(auto, using(entry_answers::proofs::WholeLaws::step_whole))]
 #[unsafe(no_mangle)]
 pub extern "C" fn debug_names_next_entry(
     order: u32,
@@ -41,13 +44,13 @@ pub extern "C" fn debug_names_next_entry(
     ensures { result ≡ entry_step_answer (order_of order) section.now (index_from index) (record { at = at }) }
 {
     let endian = order_of(order);
-    let opened = index_of(index);
-    let cursor = NameEntryIter { at: at };
-    let step = cursor.next_whole(endian, section, opened);
+    let opened = NameIndex::from(index);
+    let step = NameEntryIter { at }.next_whole(endian, section, opened);
     entry_step_answer(endian, section, opened, step)
 }
 
 // The entry with a handle.
+#[tactic(auto, using(entry_answers::proofs::WholeLaws::entry_whole))]
 #[unsafe(no_mangle)]
 pub extern "C" fn debug_names_name_entry(
     order: u32,
@@ -58,7 +61,7 @@ pub extern "C" fn debug_names_name_entry(
     ensures { result ≡ entry_answer (order_of order) section.now (index_from index) (record { 0 = offset }) }
 {
     let endian = order_of(order);
-    let opened = index_of(index);
+    let opened = NameIndex::from(index);
     let handle = NameEntryOffset(offset);
     let whole = whole_entry(endian, section, opened, handle);
     entry_answer(endian, section, opened, handle, whole)

@@ -1,5 +1,6 @@
 // The section query (document 01, "The section query"): where the function or type of a name is described. The records are lent, and a
 // refused query leaves them as they are.
+// (order, section, strings, hash, name) stay parameters, which C hands over one by one.
 ghost use Rattle.std.specs.Prelude.{◌≡◌};
 ghost use Rattle.handles.specs.Handles.{order_of};
 ghost use Rattle.debug_names.specs.Query.{query_answer};
@@ -10,6 +11,7 @@ use query::query;
 use records::Record;
 
 // All entries of a name: the answer is their number, and the first of them are written into the records that are lent.
+#[tactic(auto, unfolding(crate::specs::Query::query_answer))]
 #[unsafe(no_mangle)]
 pub extern "C" fn debug_names_query(
     order: u32,

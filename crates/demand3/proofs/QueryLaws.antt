@@ -16,11 +16,9 @@ use Rattle.reader.specs.Listing.{Listing, item, or_broken, items_of, counted}
 use Rattle.reader.specs.declared.endianity.RunTimeEndian.{RunTimeEndian}
 use Rattle.reader.proofs.OutcomeLaws.{refused-answered, same_answer, then_answered}
 use Rattle.reader.proofs.ListingLaws.{counted-items, items-length, followed-counted}
-use Rattle.index.specs.declared.open.IndexRead.{IndexRead}
 use Rattle.index.specs.Layout.{parts, fitted}
 use Rattle.index.specs.Open.{name_index}
-use Rattle.index.specs.Answers.{index_outcome}
-use Rattle.strings.specs.Strings.{Text}
+use Rattle.strings.specs.declared.Str.{Str}
 use Rattle.names.specs.Names.{name_string}
 use Rattle.entries.specs.Series.{series}
 use Rattle.entries.proofs.SeriesLaws.{entry-lookups}
@@ -40,6 +38,9 @@ use Rattle.demand3.specs.Expected.{OpenIndex, reads_as, string_matches, hash_mat
 use Rattle.demand3.specs.Demand3.{Each, and_then, CompleteOrNoTable, QueryFinds, Demand3}
 use Rattle.demand3.proofs.HeaderLaws.{all_of, headers_all}
 use Rattle.demand3.proofs.ListLaws.{shown-all, map-take, filter-both, filter-all}
+use Rattle.reader.specs.Answers.{outcome}
+use Rattle.reader.specs.Steps.{answers}
+use Rattle.std.specs.Prelude.{Ok}
 
 module _ (order : RunTimeEndian) (s strs : List ℕ) (hash : ℕ) (text : List ℕ) where
   module _ (o : OpenIndex) where
@@ -80,7 +81,7 @@ module _ (order : RunTimeEndian) (s strs : List ℕ) (hash : ℕ) (text : List �
     unfolding name_matches string_matches
     test-answered name b = by_string (name_string order s strs o.index (record { 0 = name }))
       where
-        by_string : (t : Outcome Text) → (t >>= λ t. answered (text_is strs text t)) ≡ answered b → reads_as strs text t ≡ b
+        by_string : (t : Outcome Str) → (t >>= λ t. answered (text_is strs text t)) ≡ answered b → reads_as strs text t ≡ b
         by_string (answered t) e = same_answer e
         by_string (refused n v) e = absurd (refused-answered e)
 
@@ -132,7 +133,7 @@ module _ (order : RunTimeEndian) (s strs : List ℕ) (hash : ℕ) (text : List �
         by_candidates (refused m v) given e = absurd (refused-answered e)
 
   -- the same for all indexes
-  headers_all_found : (opened : List OpenIndex) (n : ℕ) → Each (λ o. index_outcome (IndexRead.Value o.index) ≡ name_index s o.header) opened → Each (CompleteOrNoTable order s) opened
+  headers_all_found : (opened : List OpenIndex) (n : ℕ) → Each (λ o. outcome (Ok o.index) ≡ name_index s o.header) opened → Each (CompleteOrNoTable order s) opened
       → counted (header_records order s strs hash text (all_of (map (λ o. o.header) opened))) ≡ answered n
       → map answered (items_of (header_records order s strs hash text (all_of (map (λ o. o.header) opened)))) ≡ expected order s strs hash text opened
   unfolding header_records items_of expected flat_map all_of

@@ -9,32 +9,28 @@
 -- hold, in the order of index, name and series, and nothing else.
 --
 -- Completeness of the query's list concerns records with document 02's choice of the unit (No. 5): `expected` has them.
-use Rattle.std.specs.Prelude.{ℕ, ◌≡◌, true, ◌⊎◌, List, [], ◌∷◌, ◌++◌, map, length, take, drop}
-use Rattle.std.proofs.Math.Option.{Option, some}
+use Rattle.std.specs.Prelude.{ℕ, ◌≡◌, true, ◌⊎◌, List, [], ◌∷◌, ◌++◌, map, length, take, drop, Ok}
+use Rattle.std.specs.Prelude.{Option, Some}
 use Rattle.reader.specs.Outcome.{Outcome, answered}
-use Rattle.reader.specs.Steps.{Linked, has_end, up_to_end}
+use Rattle.reader.specs.Steps.{Linked, has_end, up_to_end, answers, Taken}
 use Rattle.reader.specs.declared.endianity.RunTimeEndian.{RunTimeEndian}
 use Rattle.headers.specs.declared.header.NameIndexHeader.{NameIndexHeader}
-use Rattle.headers.specs.declared.headers.HeaderStep.{HeaderStep}
 use Rattle.headers.specs.Headers.{first_header, header_step}
-use Rattle.headers.specs.Answers.{header_step_of}
-use Rattle.index.specs.declared.open.IndexRead.{IndexRead}
 use Rattle.index.specs.Open.{name_index}
-use Rattle.index.specs.Answers.{index_outcome}
 use Rattle.entries.specs.Demand3.{EntryLookups}
 use Rattle.hashes.specs.Demand3.{BucketLookups, HashLookups}
 use Rattle.tables.specs.declared.TableCheck.{TableCheck}
-use Rattle.tables.specs.Check.{check_outcome, table_check}
+use Rattle.tables.specs.Check.{table_check}
 use Rattle.tables.specs.Demand3.{CompleteExactly}
 use Rattle.records.specs.declared.record.Record.{Record}
-use Rattle.query_plan.specs.declared.QueryRead.{QueryRead}
-use Rattle.query_plan.specs.Answers.{query_outcome}
 use Rattle.query.specs.Query.{section_query}
 use Rattle.demand3.specs.Expected.{OpenIndex, expected}
+use Rattle.reader.specs.Answers.{outcome}
+use Rattle.headers.specs.declared.headers.NameIndexHeaderIter.{NameIndexHeaderIter}
 
 -- what the code's steps over the headers answered
-abbrev pub header_answers : List HeaderStep → List (Outcome (Option NameIndexHeader))
-header_answers = map λ r. (header_step_of r).answer
+abbrev pub header_answers : List (Taken NameIndexHeader NameIndexHeaderIter) → List (Outcome (Option NameIndexHeader))
+header_answers = answers
 
 -- a claim of each element of a list
 pub data Each {A : Type 0} (claim : A → Type 0) : List A → Type 0 where
@@ -45,15 +41,15 @@ pub data Each {A : Type 0} (claim : A → Type 0) : List A → Type 0 where
 -- without refusal; and `NameIndex::new` takes each header.
 abbrev pub AllOpen : RunTimeEndian → List ℕ → List OpenIndex → Type 0
 AllOpen order s opened =
-    ((steps : List HeaderStep)
-    × Linked header_step_of (header_step order s) first_header steps
+    ((steps : List (Taken NameIndexHeader NameIndexHeaderIter))
+    × Linked (header_step order s) first_header steps
     × (has_end (header_answers steps) ≡ true)
-    × (up_to_end (header_answers steps) ≡ map (λ o. answered (some o.header)) opened))
-    × Each (λ o. index_outcome (IndexRead.Value o.index) ≡ name_index s o.header) opened
+    × (up_to_end (header_answers steps) ≡ map (λ o. answered (Some o.header)) opened))
+    × Each (λ o. outcome (Ok o.index) ≡ name_index s o.header) opened
 
 -- the table check says that an index is complete, or that it has no hash table
 abbrev pub CompleteOrNoTable : RunTimeEndian → List ℕ → OpenIndex → Type 0
-CompleteOrNoTable order s o = (check_outcome TableCheck.Complete ≡ table_check order s o.index) ⊎ (check_outcome TableCheck.NoTable ≡ table_check order s o.index)
+CompleteOrNoTable order s o = (outcome (Ok TableCheck.Complete) ≡ table_check order s o.index) ⊎ (outcome (Ok TableCheck.NoTable) ≡ table_check order s o.index)
 
 -- The third part. Of a query that is not refused: its total is the number of the entries expected; and the lent records are at exit the first
 -- of their records, as many as there is room for, and after them what was there.
@@ -62,7 +58,7 @@ QueryFinds =
     (order : RunTimeEndian) (s strs : List ℕ) (hash : ℕ) (text : List ℕ) (lent after : List Record) (total : ℕ) (opened : List OpenIndex)
     → AllOpen order s opened
     → Each (CompleteOrNoTable order s) opened
-    → record { answer = query_outcome (QueryRead.Total total); records = after } ≡ section_query order s strs hash text lent
+    → record { answer = outcome (Ok total); records = after } ≡ section_query order s strs hash text lent
     → (total ≡ length (expected order s strs hash text opened))
     × ((new : List Record) × (map answered new ≡ take (length lent) (expected order s strs hash text opened)) × (after ≡ new ++ drop (length new) lent))
 

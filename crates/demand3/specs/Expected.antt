@@ -12,7 +12,7 @@ use Rattle.reader.specs.declared.endianity.RunTimeEndian.{RunTimeEndian}
 use Rattle.headers.specs.declared.header.NameIndexHeader.{NameIndexHeader}
 use Rattle.index.specs.declared.layout.NameIndex.{NameIndex}
 use Rattle.index.specs.Layout.{parts}
-use Rattle.strings.specs.Strings.{Text}
+use Rattle.strings.specs.declared.Str.{Str}
 use Rattle.names.specs.Names.{name_string}
 use Rattle.entries.specs.Series.{series}
 use Rattle.hashes.specs.Table.{stored_hash}
@@ -26,7 +26,7 @@ pub record OpenIndex : Type 0 where
   pub index : NameIndex
 
 -- a string that cannot be read equals nothing
-abbrev pub reads_as : List ℕ → List ℕ → Outcome Text → Bool
+abbrev pub reads_as : List ℕ → List ℕ → Outcome Str → Bool
 reads_as strs text (answered t) = text_is strs text t
 reads_as strs text (refused n v) = false
 

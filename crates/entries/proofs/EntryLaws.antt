@@ -4,19 +4,19 @@ use Prim.Native.Nat.{ℕ, ◌-◌}
 use mathlib.Core.Path.{◌≡◌, refl, sym, ap, ◌∙◌}
 use mathlib.Core.Bool.{Bool, true, false, cond}
 use mathlib.Core.List.{List}
-use mathlib.Core.Option.{Option, some, none, none-ne-some, some-injective}
+use Rattle.std.specs.Prelude.{Option, Some, None}
+use Rattle.reader.proofs.OutcomeLaws.{none-ne-some, some-injective}
 use native.Mathlib.Omega.{arith}
 use lib.Dec.{eqb}
 use Rattle.reader.specs.Outcome.{Outcome, answered, refused, ◌>>=◌}
 use Rattle.reader.specs.Parts.{skipped, Forward}
-use Rattle.reader.specs.Numbers.{Read}
+use Rattle.reader.specs.declared.reader.Read.{Read}
 use Rattle.leb128.specs.Leb128.{leb128, unsigned_limit}
 use Rattle.reader.specs.declared.endianity.RunTimeEndian.{RunTimeEndian}
 use Rattle.reader.specs.declared.common.NameEntryOffset.{NameEntryOffset}
 use Rattle.reader.proofs.OutcomeLaws.{refused-answered, same_answer, bind_answered}
 use Rattle.reader.proofs.PartLaws.{skip_answered}
 use Rattle.leb128.proofs.Leb128Laws.{leb128-forward}
-use Rattle.abbreviations.specs.declared.Abbreviation.{Abbreviation}
 use Rattle.abbreviations.specs.Abbreviations.{Declaration, handed_out, table, find, found}
 use Rattle.abbreviations.proofs.AbbreviationLaws.{declaration_read, found_in_table}
 use Rattle.index.specs.declared.layout.NameIndex.{NameIndex}
@@ -24,83 +24,83 @@ use Rattle.index.specs.declared.layout.Parts.{Parts}
 use Rattle.index.specs.Layout.{parts, fitted}
 use Rattle.index.proofs.LayoutLaws.{fitted-answered}
 use Rattle.attributes.specs.declared.facts.Facts.{Facts}
-use Rattle.attributes.specs.declared.facts.ReadFacts.{ReadFacts}
 use Rattle.attributes.specs.Attributes.{Values, values, facts, facts_read}
-use Rattle.attributes.proofs.AttributeLaws.{facts-declared, entry_values_onward}
+use Rattle.attributes.proofs.AttributeLaws.{facts_declared, entry_values_onward}
 use Rattle.entries.specs.declared.entry.WholeEntry.{WholeEntry}
 use Rattle.entries.specs.Sanity.{EntriesForward, HandlesBelow}
 use Rattle.entries.specs.Entries.{Entry, or_refuse, entry, name_entry, handed, name_entry_handed, whole, whole_of, entry_read, whole_entry}
+use Rattle.abbreviations.specs.declared.NameAbbreviation.{NameAbbreviation}
 
 -- what the search for the code's declaration leads to, in the order of the code
-unfoldable pub with_found : RunTimeEndian → List ℕ → Parts → Read → Abbreviation → Outcome (Option WholeEntry)
-with_found order s p code Abbreviation.NotFound = refused 8 code.value
-with_found order s p code (Abbreviation.Found d) = do
+unfoldable pub with_found : RunTimeEndian → List ℕ → Parts → Read ℕ → Option NameAbbreviation → Outcome (Option WholeEntry)
+with_found order s p code None = refused 8 code.value
+with_found order s p code (Some d) = do
   f ← facts_read order s d.attributes p.entry_pool code.next p.end
-  answered (some (record { abbrev_code = code.value; tag = d.tag; facts = f.facts; next = f.next }))
+  answered (Some (record { abbrev_code = code.value; tag = d.tag; facts = f.value; next = f.next }))
 
 -- the same in the definition
-abbrev with_declared : RunTimeEndian → List ℕ → Parts → ℕ → Read → Option Declaration → Outcome (Option Entry)
+abbrev with_declared : RunTimeEndian → List ℕ → Parts → ℕ → Read ℕ → Option Declaration → Outcome (Option Entry)
 with_declared order s p at code declared = do
   d ← or_refuse declared 8 code.value
   v ← values order s d.attributes code.next p.end
-  answered (some (record { offset = at - p.entry_pool; code = code.value; tag = d.tag; attributes = v.list; next = v.next }))
+  answered (Some (record { offset = at - p.entry_pool; code = code.value; tag = d.tag; attributes = v.list; next = v.next }))
 
 -- the first attribute of each name, of values that were read
-abbrev kept : Values → ReadFacts
-kept v = record { facts = facts v.list; next = v.next }
+abbrev kept : Values → Read Facts
+kept v = record { value = facts v.list; next = v.next }
 
 -- a declaration that was found tells the same of both: its pairs can all be read
-found_tells : (order : RunTimeEndian) (s : List ℕ) (p : Parts) (at : ℕ) (code : Read) (declared : Option Declaration)
+found_tells : (order : RunTimeEndian) (s : List ℕ) (p : Parts) (at : ℕ) (code : Read ℕ) (declared : Option Declaration)
     → find code.value (table s p.abbreviation_table p.entry_pool) ≡ answered declared
     → (with_declared order s p at code declared >>= λ e. answered (whole_of e)) ≡ with_found order s p code (handed_out declared)
 unfolding with_found
-found_tells order s p at code none e = refl
-found_tells order s p at code (some d) e =
+found_tells order s p at code None e = refl
+found_tells order s p at code (Some d) e =
     let (same, (place, read)) = found_in_table code.value s p.abbreviation_table p.entry_pool d e in
     let (ahead, pairs) = declaration_read s place p.entry_pool d read in
-    rw (facts-declared order s d.place p.entry_pool _ code.next p.end pairs) (by_values (values order s d.attributes code.next p.end))
+    rw (facts_declared order s d.place p.entry_pool _ code.next p.end pairs) (by_values (values order s d.attributes code.next p.end))
   where
     by_values : (o : Outcome Values)
-        → ((o >>= λ v. answered (some (record { offset = at - p.entry_pool; code = code.value; tag = d.tag; attributes = v.list; next = v.next }))) >>= λ e. answered (whole_of e))
-        ≡ ((o >>= λ v. answered (kept v)) >>= λ f. answered (some (record { abbrev_code = code.value; tag = d.tag; facts = f.facts; next = f.next })))
+        → ((o >>= λ v. answered (Some (record { offset = at - p.entry_pool; code = code.value; tag = d.tag; attributes = v.list; next = v.next }))) >>= λ e. answered (whole_of e))
+        ≡ ((o >>= λ v. answered (kept v)) >>= λ f. answered (Some (record { abbrev_code = code.value; tag = d.tag; facts = f.value; next = f.next })))
     by_values (answered v) = refl
     by_values (refused n v) = refl
 
 -- an entry in the order of the code
 pub read_step : (order : RunTimeEndian) (s : List ℕ) (p : Parts) (at : ℕ) → entry_read order s p at ≡ (do
   code ← leb128 unsigned_limit s at p.end
-  cond (eqb code.value 0) (answered none) (do
+  cond (eqb code.value 0) (answered None) (do
     a ← found code.value s p.abbreviation_table p.entry_pool
     with_found order s p code a))
 unfolding entry_read entry found
 read_step order s p at = by_code (leb128 unsigned_limit s at p.end)
   where
-    by_search : (code : Read) (o : Outcome (Option Declaration)) → find code.value (table s p.abbreviation_table p.entry_pool) ≡ o
+    by_search : (code : Read ℕ) (o : Outcome (Option Declaration)) → find code.value (table s p.abbreviation_table p.entry_pool) ≡ o
         → ((o >>= with_declared order s p at code) >>= λ e. answered (whole_of e)) ≡ ((o >>= λ d. answered (handed_out d)) >>= with_found order s p code)
     by_search code (answered declared) e = found_tells order s p at code declared e
     by_search code (refused n v) e = refl
 
-    by_zero : (t : Bool) (code : Read)
-        → (cond t (answered none) (find code.value (table s p.abbreviation_table p.entry_pool) >>= with_declared order s p at code) >>= λ e. answered (whole_of e))
-        ≡ cond t (answered none) ((find code.value (table s p.abbreviation_table p.entry_pool) >>= λ d. answered (handed_out d)) >>= with_found order s p code)
+    by_zero : (t : Bool) (code : Read ℕ)
+        → (cond t (answered None) (find code.value (table s p.abbreviation_table p.entry_pool) >>= with_declared order s p at code) >>= λ e. answered (whole_of e))
+        ≡ cond t (answered None) ((find code.value (table s p.abbreviation_table p.entry_pool) >>= λ d. answered (handed_out d)) >>= with_found order s p code)
     by_zero true code = refl
     by_zero false code = by_search code _ refl
 
-    by_code : (o : Outcome Read)
-        → ((o >>= λ code. cond (eqb code.value 0) (answered none) (find code.value (table s p.abbreviation_table p.entry_pool) >>= with_declared order s p at code)) >>= λ e. answered (whole_of e))
-        ≡ (o >>= λ code. cond (eqb code.value 0) (answered none) ((find code.value (table s p.abbreviation_table p.entry_pool) >>= λ d. answered (handed_out d)) >>= with_found order s p code))
+    by_code : (o : Outcome (Read ℕ))
+        → ((o >>= λ code. cond (eqb code.value 0) (answered None) (find code.value (table s p.abbreviation_table p.entry_pool) >>= with_declared order s p at code)) >>= λ e. answered (whole_of e))
+        ≡ (o >>= λ code. cond (eqb code.value 0) (answered None) ((find code.value (table s p.abbreviation_table p.entry_pool) >>= λ d. answered (handed_out d)) >>= with_found order s p code))
     by_code (answered code) = by_zero (eqb code.value 0) code
     by_code (refused n v) = refl
 
 -- what an answered entry says: its handle is its offset in the pool; it takes a byte, and stays inside
-entry-answered : (order : RunTimeEndian) (s : List ℕ) (p : Parts) (at : ℕ) (e : Entry) → entry order s p at ≡ answered (some e)
+entry-answered : (order : RunTimeEndian) (s : List ℕ) (p : Parts) (at : ℕ) (e : Entry) → entry order s p at ≡ answered (Some e)
     → (e.offset ≡ at - p.entry_pool) × Forward s at p.end e.next
 unfolding entry
 entry-answered order s p at e answer =
-    let (code, read, rest) = bind_answered (leb128 unsigned_limit s at p.end) _ (some e) answer in
-    let (declared, search, values-follow) = bind_answered (find code.value (table s p.abbreviation_table p.entry_pool)) _ (some e) (other (eqb code.value 0) _ rest) in
-    let (d, there, values-read) = bind_answered (or_refuse declared 8 code.value) _ (some e) values-follow in
-    let (v, read-values, same) = bind_answered (values order s d.attributes code.next p.end) _ (some e) values-read in
+    let (code, read, rest) = bind_answered (leb128 unsigned_limit s at p.end) _ (Some e) answer in
+    let (declared, search, values-follow) = bind_answered (find code.value (table s p.abbreviation_table p.entry_pool)) _ (Some e) (other (eqb code.value 0) _ rest) in
+    let (d, there, values-read) = bind_answered (or_refuse declared 8 code.value) _ (Some e) values-follow in
+    let (v, read-values, same) = bind_answered (values order s d.attributes code.next p.end) _ (Some e) values-read in
     let this = some-injective _ _ (same_answer same) in
     let offset : e.offset ≡ at - p.entry_pool = ap (λ e. e.offset) (sym this) in
     let past : e.next ≡ v.next = ap (λ e. e.next) (sym this) in
@@ -109,11 +109,11 @@ entry-answered order s p at e answer =
     (offset, (omega arith, omega arith))
   where
     -- the side of a choice that is not none
-    other : (t : Bool) (m : Outcome (Option Entry)) → cond t (answered none) m ≡ answered (some e) → m ≡ answered (some e)
+    other : (t : Bool) (m : Outcome (Option Entry)) → cond t (answered None) m ≡ answered (Some e) → m ≡ answered (Some e)
     other true m same = absurd (none-ne-some _ (same_answer same))
     other false m same = same
 
-pub entry-offset : (order : RunTimeEndian) (s : List ℕ) (p : Parts) (at : ℕ) (e : Entry) → entry order s p at ≡ answered (some e) → e.offset ≡ at - p.entry_pool
+pub entry-offset : (order : RunTimeEndian) (s : List ℕ) (p : Parts) (at : ℕ) (e : Entry) → entry order s p at ≡ answered (Some e) → e.offset ≡ at - p.entry_pool
 entry-offset order s p at e answer = let (offset, forward) = entry-answered order s p at e answer in offset
 
 pub entries_forward : EntriesForward
@@ -130,8 +130,8 @@ whole_step_lem order s i offset = by_parts (fitted s i)
   where
     by_entry : (o : Outcome (Option Entry))
         → ((o >>= λ e. or_refuse e 10 offset.0) >>= λ e. answered (whole e)) ≡ ((o >>= λ e. answered (whole_of e)) >>= λ e. or_refuse e 10 offset.0)
-    by_entry (answered none) = refl
-    by_entry (answered (some e)) = refl
+    by_entry (answered None) = refl
+    by_entry (answered (Some e)) = refl
     by_entry (refused n v) = refl
 
     by_place : (p : Parts) (o : Outcome ℕ)
@@ -164,9 +164,9 @@ handles_below order s i offset e answer =
     let stops = ap (λ q. q.end) parts_are in
     (omega arith, omega (arith, begins, stops, pool_end i, ahead, inside))
   where
-    is_there : (o : Option Entry) → or_refuse o 10 offset.0 ≡ answered e → o ≡ some e
-    is_there none there = absurd (refused-answered there)
-    is_there (some f) there = ap (λ x. some x) (same_answer there)
+    is_there : (o : Option Entry) → or_refuse o 10 offset.0 ≡ answered e → o ≡ Some e
+    is_there None there = absurd (refused-answered there)
+    is_there (Some f) there = ap (λ x. Some x) (same_answer there)
 
 -- `name_entry` in the order of the code: the handle is the one that was given
 pub name_entry_step : (order : RunTimeEndian) (s : List ℕ) (i : NameIndex) (offset : NameEntryOffset) → name_entry_handed order s i offset ≡ (do

@@ -3,7 +3,8 @@ use Prim.Native.Nat.{ℕ, ◌+◌, ◌-◌, ◌≤◌}
 use mathlib.Core.Path.{◌≡◌, refl, sym, ap, ◌∙◌}
 use mathlib.Core.Bool.{Bool, true, false, cond}
 use mathlib.Core.List.{List}
-use mathlib.Core.Option.{Option, some, none, none-ne-some, some-injective}
+use Rattle.std.specs.Prelude.{Option, Some, None}
+use Rattle.reader.proofs.OutcomeLaws.{none-ne-some, some-injective}
 use native.Mathlib.Omega.{arith}
 use lib.ListN.{length}
 use lib.Dec.{ltb, eqb}
@@ -27,23 +28,23 @@ use Rattle.names.specs.Units.{nth_word}
 use Rattle.entries.specs.declared.entry.NameEntry.{NameEntry}
 use Rattle.entries.specs.declared.entry.WholeEntry.{WholeEntry}
 use Rattle.entries.specs.declared.series.NameEntryIter.{NameEntryIter}
-use Rattle.entries.specs.Answers.{entry_step_of}
 use Rattle.entries.specs.Sanity.{pool_length, SeriesUnfold, SeriesShort, HandlesLead, HandlesTell}
 use Rattle.entries.specs.Demand3.{EntryLookups}
-use Rattle.entries.specs.Entries.{Entry, entry, name_entry, handed, name_entry_handed, Told, told, whole_of, entry_read, whole_entry}
+use Rattle.entries.specs.declared.entry.EntryAt.{EntryAt}
+use Rattle.entries.specs.Entries.{Entry, entry, name_entry, handed, name_entry_handed, less_whole, told, whole_of, entry_read, whole_entry}
 use Rattle.entries.specs.Series.{series_start, series_entry, entries_from, series, cursor_at, name_entries, moved, step_showing, entry_step, whole_step}
 use Rattle.entries.proofs.EntryLaws.{entry-offset, entries_forward, pool_end}
 
 -- an entry of a series is one of the pool
-series-entry : (order : RunTimeEndian) (s : List ℕ) (p : Parts) (at : ℕ) (e : Entry) → series_entry order s p at ≡ answered (some e) → entry order s p at ≡ answered (some e)
+series-entry : (order : RunTimeEndian) (s : List ℕ) (p : Parts) (at : ℕ) (e : Entry) → series_entry order s p at ≡ answered (Some e) → entry order s p at ≡ answered (Some e)
 unfolding series_entry
 series-entry order s p at e = other (eqb (left_at s at p.end) 0)
   where
-    other : (t : Bool) → cond t (answered none) (entry order s p at) ≡ answered (some e) → entry order s p at ≡ answered (some e)
+    other : (t : Bool) → cond t (answered None) (entry order s p at) ≡ answered (Some e) → entry order s p at ≡ answered (Some e)
     other true same = absurd (none-ne-some _ (same_answer same))
     other false same = same
 
-none_there : (order : RunTimeEndian) (s : List ℕ) (p : Parts) (at : ℕ) → part_end s p.end ≤ at → series_entry order s p at ≡ answered none
+none_there : (order : RunTimeEndian) (s : List ℕ) (p : Parts) (at : ℕ) → part_end s p.end ≤ at → series_entry order s p at ≡ answered None
 unfolding series_entry
 none_there order s p at h = rw (eq-eqb (left_at s at p.end) 0 (omega arith))
 
@@ -87,12 +88,12 @@ series-short order s i name = by_start (series_start order s i name) refl
     by_start (refused n v) e = omega arith
 
 -- a step in the order of the code, which keeps the first attribute of each name and no list
-unfoldable pub moved_by : Parts → ℕ → Outcome (Option WholeEntry) → Step Told NameEntryIter
-moved_by p at (answered (some w)) = record {
-  answer = answered (some (record { offset = record { 0 = at - p.entry_pool }; entry = w }));
+unfoldable pub moved_by : Parts → ℕ → Outcome (Option WholeEntry) → Step EntryAt NameEntryIter
+moved_by p at (answered (Some w)) = record {
+  answer = answered (Some (record { offset = record { 0 = at - p.entry_pool }; entry = w }));
   cursor = cursor_at w.next;
 }
-moved_by p at (answered none) = record { answer = answered none; cursor = cursor_at p.end }
+moved_by p at (answered None) = record { answer = answered None; cursor = cursor_at p.end }
 moved_by p at (refused n v) = record { answer = refused n v; cursor = cursor_at p.end }
 
 moved_read : (order : RunTimeEndian) (s : List ℕ) (p : Parts) (at : ℕ) → moved told p (entry order s p at) ≡ moved_by p at (entry_read order s p at)
@@ -100,29 +101,29 @@ unfolding moved moved_by entry_read
 moved_read order s p at = by_entry (entry order s p at) refl
   where
     by_entry : (o : Outcome (Option Entry)) → entry order s p at ≡ o → moved told p o ≡ moved_by p at (o >>= λ e. answered (whole_of e))
-    by_entry (answered none) read = refl
-    by_entry (answered (some e)) read = rw (entry-offset order s p at e read)
+    by_entry (answered None) read = refl
+    by_entry (answered (Some e)) read = rw (entry-offset order s p at e read)
     by_entry (refused n v) read = refl
 
 pub whole_step_lem : (order : RunTimeEndian) (s : List ℕ) (i : NameIndex) (c : NameEntryIter) → whole_step order s i c ≡ keeping c (do
   p ← fitted s i
   refuse_if (ltb c.at p.entry_pool) 14 0
   refuse_if (ltb p.end c.at) 14 0
-  answered (cond (eqb (left_at s c.at p.end) 0) (record { answer = answered none; cursor = cursor_at p.end }) (moved_by p c.at (entry_read order s p c.at))))
+  answered (cond (eqb (left_at s c.at p.end) 0) (record { answer = answered None; cursor = cursor_at p.end }) (moved_by p c.at (entry_read order s p c.at))))
 unfolding whole_step step_showing series_entry moved
 whole_step_lem order s i c = ap (keeping c) (bind_same (fitted s i) _ _ λ p fits. rw (both p (eqb (left_at s c.at p.end) 0)))
   where
     both : (p : Parts) (t : Bool)
-        → moved told p (cond t (answered none) (entry order s p c.at)) ≡ cond t (record { answer = answered none; cursor = cursor_at p.end }) (moved_by p c.at (entry_read order s p c.at))
+        → moved told p (cond t (answered None) (entry order s p c.at)) ≡ cond t (record { answer = answered None; cursor = cursor_at p.end }) (moved_by p c.at (entry_read order s p c.at))
     both p true = refl
     both p false = moved_read order s p c.at
 
 -- the step that shows less: what one pass tells of an entry, without its attributes and the place past it
-abbrev pub less_of : Option Told → Option NameEntry
-less_of none = none
-less_of (some t) = some (record { offset = t.offset; abbrev_code = t.entry.abbrev_code; tag = t.entry.tag })
+abbrev pub less_of : Option EntryAt → Option NameEntry
+less_of None = None
+less_of (Some t) = Some (less_whole t)
 
-abbrev pub less : Step Told NameEntryIter → Step NameEntry NameEntryIter
+abbrev pub less : Step EntryAt NameEntryIter → Step NameEntry NameEntryIter
 less t = record { answer = t.answer >>= λ e. answered (less_of e); cursor = t.cursor }
 
 pub entry_step_lem : (order : RunTimeEndian) (s : List ℕ) (i : NameIndex) (c : NameEntryIter) → entry_step order s i c ≡ less (whole_step order s i c)
@@ -130,8 +131,8 @@ unfolding entry_step whole_step step_showing moved
 entry_step_lem order s i c = by_fit (fitted s i)
   where
     by_entry : (p : Parts) (o : Outcome (Option Entry)) → moved handed p o ≡ less (moved told p o)
-    by_entry p (answered none) = refl
-    by_entry p (answered (some e)) = refl
+    by_entry p (answered None) = refl
+    by_entry p (answered (Some e)) = refl
     by_entry p (refused n v) = refl
 
     by_tests : (p : Parts) (t u : Bool)
@@ -162,21 +163,21 @@ entry_step_lem order s i c = by_fit (fitted s i)
     by_fit (refused n v) = refl
 
 -- a step that answers an entry passed its tests, and the entry is the one at the cursor's place
-kept-answer : {A : Type 0} (c : NameEntryIter) (o : Outcome (Step A NameEntryIter)) (e : A) → (keeping c o).answer ≡ answered (some e)
-    → (t : Step A NameEntryIter) × (o ≡ answered t) × (t.answer ≡ answered (some e))
+kept-answer : {A : Type 0} (c : NameEntryIter) (o : Outcome (Step A NameEntryIter)) (e : A) → (keeping c o).answer ≡ answered (Some e)
+    → (t : Step A NameEntryIter) × (o ≡ answered t) × (t.answer ≡ answered (Some e))
 kept-answer c (answered t) e same = (t, refl, same)
 kept-answer c (refused n v) e same = absurd (refused-answered same)
 
-moved-answer : {A : Type 0} (shown : Entry → A) (p : Parts) (o : Outcome (Option Entry)) (e : A) → (moved shown p o).answer ≡ answered (some e)
-    → (f : Entry) × (o ≡ answered (some f)) × (shown f ≡ e)
+moved-answer : {A : Type 0} (shown : Entry → A) (p : Parts) (o : Outcome (Option Entry)) (e : A) → (moved shown p o).answer ≡ answered (Some e)
+    → (f : Entry) × (o ≡ answered (Some f)) × (shown f ≡ e)
 unfolding moved
-moved-answer shown p (answered none) e same = absurd (none-ne-some _ (same_answer same))
-moved-answer shown p (answered (some f)) e same = (f, refl, some-injective _ _ (same_answer same))
+moved-answer shown p (answered None) e same = absurd (none-ne-some _ (same_answer same))
+moved-answer shown p (answered (Some f)) e same = (f, refl, some-injective _ _ (same_answer same))
 moved-answer shown p (refused n v) e same = absurd (refused-answered same)
 
 -- the handle of an entry of the pool leads to that entry
 pool_lead : (order : RunTimeEndian) (s : List ℕ) (i : NameIndex) (p : Parts) (at : ℕ) (f : Entry) → fitted s i ≡ answered p → p.entry_pool ≤ at
-    → entry order s p at ≡ answered (some f) → name_entry order s i (record { 0 = f.offset }) ≡ answered f
+    → entry order s p at ≡ answered (Some f) → name_entry order s i (record { 0 = f.offset }) ≡ answered f
 unfolding name_entry
 pool_lead order s i p at f fits begins there =
     let offset : f.offset ≡ at - p.entry_pool = entry-offset order s p at f there in
@@ -186,7 +187,7 @@ pool_lead order s i p at f fits begins there =
 
 -- so does that of an entry that a step shows
 shown_lead : {A : Type 0} (shown : Entry → A) (order : RunTimeEndian) (s : List ℕ) (i : NameIndex) (c : NameEntryIter) (e : A)
-    → (step_showing shown order s i c).answer ≡ answered (some e)
+    → (step_showing shown order s i c).answer ≡ answered (Some e)
     → (f : Entry) × (name_entry order s i (record { 0 = f.offset }) ≡ answered f) × (shown f ≡ e)
 unfolding step_showing
 shown_lead shown order s i c e gave =
@@ -234,8 +235,8 @@ module _ (order : RunTimeEndian) (s : List ℕ) (i : NameIndex) (short : length 
   each c (above, below) = by_cases (series_entry order s (parts i) c.at) refl (step_fits order s i c.at short fits above below)
     where
       by_cases : (o : Outcome (Option Entry)) → series_entry order s (parts i) c.at ≡ o → entry_step order s i c ≡ moved handed (parts i) o → Next (entry_step order s i) Inside left c
-      by_cases (answered none) read step = at-end (left_read c _ read) (ap (λ t. t.answer) step)
-      by_cases (answered (some e)) read step =
+      by_cases (answered None) read step = at-end (left_read c _ read) (ap (λ t. t.answer) step)
+      by_cases (answered (Some e)) read step =
           let (ahead, inside) = entries_forward order s (parts i) c.at e (series-entry order s (parts i) c.at e read) in
           gives_item (handed e) (rw step (left_read c _ read)) (ap (λ t. t.answer) step) (rw step (omega arith, omega arith))
       by_cases (refused n v) read step =
@@ -249,4 +250,4 @@ entry-lookups order s i name c steps given linked =
     let (short, fits, above, below) = start-answered order s i name at start in
     let place : c.at ≡ at = ap (λ c. c.at) (sym (same_answer same)) in
     rw (start, sym place)
-    (steps_list entry_step_of (entry_step order s i) (Inside order s i short fits) (left order s i short fits) (each order s i short fits) steps c (rw place (above, below)) linked)
+    (steps_list (entry_step order s i) (Inside order s i short fits) (left order s i short fits) (each order s i short fits) steps c (rw place (above, below)) linked)

@@ -1,17 +1,16 @@
 -- Document 01, demand 3, for entry lookups: one theorem about lists of steps of any length. The law `entry-lookups` of
 -- proofs/SeriesLaws.antt proves it.
-use Rattle.std.specs.Prelude.{ℕ, ◌≡◌, List, map}
+use Rattle.std.specs.Prelude.{ℕ, ◌≡◌, List, map, Ok}
 use Rattle.reader.specs.Listing.{answers_of}
-use Rattle.reader.specs.Steps.{Linked, ListsInOrder}
+use Rattle.reader.specs.Steps.{Linked, ListsInOrder, answers, Taken}
 use Rattle.reader.specs.declared.endianity.RunTimeEndian.{RunTimeEndian}
 use Rattle.reader.specs.declared.common.NameTableIndex.{NameTableIndex}
 use Rattle.index.specs.declared.layout.NameIndex.{NameIndex}
 use Rattle.entries.specs.declared.series.NameEntryIter.{NameEntryIter}
-use Rattle.entries.specs.declared.series.EntriesRead.{EntriesRead}
-use Rattle.entries.specs.declared.series.NameEntryStep.{NameEntryStep}
 use Rattle.entries.specs.Entries.{handed}
 use Rattle.entries.specs.Series.{series, name_entries, entry_step}
-use Rattle.entries.specs.Answers.{entries_outcome, entry_step_of}
+use Rattle.reader.specs.Answers.{outcome}
+use Rattle.entries.specs.declared.entry.NameEntry.{NameEntry}
 
 -- If `name_entries` gave the cursor c for a name, then whatever list of steps follows, each given the cursor that `name_entries` or the
 -- step before it gave: their answers up to the first end are the beginning of the name's series, in order and without a gap, an entry
@@ -19,7 +18,7 @@ use Rattle.entries.specs.Answers.{entries_outcome, entry_step_of}
 -- the series is answered (`ListsInOrder`).
 abbrev pub EntryLookups : Type 0
 EntryLookups =
-    (order : RunTimeEndian) (s : List ℕ) (i : NameIndex) (name : NameTableIndex) (c : NameEntryIter) (steps : List NameEntryStep)
-    → entries_outcome (EntriesRead.Value c) ≡ name_entries order s i name
-    → Linked entry_step_of (entry_step order s i) c steps
-    → ListsInOrder (map (λ r. (entry_step_of r).answer) steps) (answers_of handed (series order s i name))
+    (order : RunTimeEndian) (s : List ℕ) (i : NameIndex) (name : NameTableIndex) (c : NameEntryIter) (steps : List (Taken NameEntry NameEntryIter))
+    → outcome (Ok c) ≡ name_entries order s i name
+    → Linked (entry_step order s i) c steps
+    → ListsInOrder (answers steps) (answers_of handed (series order s i name))

@@ -1,7 +1,7 @@
 -- Entries of the pool: document 01, "Entries and attributes"; DWARF 5, section 6.1.1.4.8. `s` is the section, and `p` tells where the
 -- parts of the index lie.
 use Rattle.std.specs.Prelude.{ℕ, ◌-◌, cond, List, eqb}
-use Rattle.std.proofs.Math.Option.{Option, some, none}
+use Rattle.std.specs.Prelude.{Option, Some, None}
 use Rattle.reader.specs.Outcome.{Outcome, answered, refused, ◌>>=◌}
 use Rattle.reader.specs.Parts.{skipped}
 use Rattle.leb128.specs.Leb128.{leb128, unsigned_limit}
@@ -14,6 +14,7 @@ use Rattle.index.specs.Layout.{fitted}
 use Rattle.attributes.specs.Attributes.{NameAttribute, values, facts}
 use Rattle.entries.specs.declared.entry.NameEntry.{NameEntry}
 use Rattle.entries.specs.declared.entry.WholeEntry.{WholeEntry}
+use Rattle.entries.specs.declared.entry.EntryAt.{EntryAt}
 
 -- an entry: its handle, which is its offset in the pool, its abbreviation code, its tag, its attributes in order, each with name, form
 -- and value, and the place after them
@@ -26,18 +27,18 @@ pub record Entry : Type 0 where
 
 -- what is there, or the refusal where there is none
 abbrev pub or_refuse : {A : Type 0} → Option A → ℕ → ℕ → Outcome A
-or_refuse (some a) n v = answered a
-or_refuse none n v = refused n v
+or_refuse (Some a) n v = answered a
+or_refuse None n v = refused n v
 
 -- the entry at a place of the pool, none at code 0: its code's declaration, 8 where there is none, says which attributes follow
 unfoldable pub entry : RunTimeEndian → List ℕ → Parts → ℕ → Outcome (Option Entry)
 entry order s p at = do
   code ← leb128 unsigned_limit s at p.end
-  cond (eqb code.value 0) (answered none) (do
+  cond (eqb code.value 0) (answered None) (do
     declared ← find code.value (table s p.abbreviation_table p.entry_pool)
     d ← or_refuse declared 8 code.value
     v ← values order s d.attributes code.next p.end
-    answered (some (record { offset = at - p.entry_pool; code = code.value; tag = d.tag; attributes = v.list; next = v.next })))
+    answered (Some (record { offset = at - p.entry_pool; code = code.value; tag = d.tag; attributes = v.list; next = v.next })))
 
 -- the entry with that handle: skip so far into the pool, then read; at code 0 it is 10
 unfoldable pub name_entry : RunTimeEndian → List ℕ → NameIndex → NameEntryOffset → Outcome Entry
@@ -57,21 +58,21 @@ name_entry_handed order s i offset = do
   e ← name_entry order s i offset
   answered (handed e)
 
+-- the same of what a pass over it tells
+abbrev pub less_whole : EntryAt → NameEntry
+less_whole e = record { offset = e.offset; abbrev_code = e.entry.abbrev_code; tag = e.entry.tag }
+
 -- What single functions of the code answer: of the attributes, the first of each name.
 abbrev pub whole : Entry → WholeEntry
 whole e = record { abbrev_code = e.code; tag = e.tag; facts = facts e.attributes; next = e.next }
 
 -- the same with its handle
-pub record Told : Type 0 where
-  pub offset : NameEntryOffset
-  pub entry : WholeEntry
-
-abbrev pub told : Entry → Told
+abbrev pub told : Entry → EntryAt
 told e = record { offset = record { 0 = e.offset }; entry = whole e }
 
 abbrev pub whole_of : Option Entry → Option WholeEntry
-whole_of none = none
-whole_of (some e) = some (whole e)
+whole_of None = None
+whole_of (Some e) = Some (whole e)
 
 -- `read_entry`
 unfoldable pub entry_read : RunTimeEndian → List ℕ → Parts → ℕ → Outcome (Option WholeEntry)

@@ -1,30 +1,29 @@
 -- The five facts of an entry: document 01, "Entries and attributes". Each is refused as the entry is, and then the first attribute of the
 -- name decides. `s` is the section.
-use Rattle.std.specs.Prelude.{ℕ, List}
+use Rattle.std.specs.Prelude.{ℕ, List, Option}
 use Rattle.reader.specs.Outcome.{Outcome, ◌>>=◌}
 use Rattle.reader.specs.declared.endianity.RunTimeEndian.{RunTimeEndian}
 use Rattle.reader.specs.declared.common.NameEntryOffset.{NameEntryOffset}
 use Rattle.index.specs.declared.layout.NameIndex.{NameIndex}
-use Rattle.attributes.specs.declared.attribute.DieOffset.{DieOffset}
 use Rattle.attributes.specs.declared.attribute.EntryParent.{EntryParent}
-use Rattle.attributes.specs.declared.attribute.TypeHash.{TypeHash}
-use Rattle.attributes.specs.declared.units.EntryUnit.{EntryUnit}
-use Rattle.attributes.specs.declared.units.EntryTypeUnit.{EntryTypeUnit}
 use Rattle.attributes.specs.Attributes.{first, compile_unit_name, type_unit_name, die_offset_name, parent_name, type_hash_name}
 use Rattle.attributes.specs.Meaning.{compile_unit_of, type_unit_of, die_offset_of, parent_of, type_hash_of}
 use Rattle.entries.specs.Entries.{name_entry}
+use Rattle.names.specs.declared.units.NameTypeUnit.{NameTypeUnit}
+use Rattle.reader.specs.declared.common.DebugInfoOffset.{DebugInfoOffset}
+use Rattle.reader.specs.declared.common.UnitOffset.{UnitOffset}
 
-unfoldable pub entry_compile_unit : RunTimeEndian → List ℕ → NameIndex → NameEntryOffset → Outcome EntryUnit
+unfoldable pub entry_compile_unit : RunTimeEndian → List ℕ → NameIndex → NameEntryOffset → Outcome (Option DebugInfoOffset)
 entry_compile_unit order s i offset = do
   e ← name_entry order s i offset
   compile_unit_of order s i (first compile_unit_name e.attributes)
 
-unfoldable pub entry_type_unit : RunTimeEndian → List ℕ → NameIndex → NameEntryOffset → Outcome EntryTypeUnit
+unfoldable pub entry_type_unit : RunTimeEndian → List ℕ → NameIndex → NameEntryOffset → Outcome (Option NameTypeUnit)
 entry_type_unit order s i offset = do
   e ← name_entry order s i offset
   type_unit_of order s i (first type_unit_name e.attributes)
 
-unfoldable pub entry_die_offset : RunTimeEndian → List ℕ → NameIndex → NameEntryOffset → Outcome DieOffset
+unfoldable pub entry_die_offset : RunTimeEndian → List ℕ → NameIndex → NameEntryOffset → Outcome (Option UnitOffset)
 entry_die_offset order s i offset = do
   e ← name_entry order s i offset
   die_offset_of (first die_offset_name e.attributes)
@@ -34,7 +33,7 @@ entry_parent order s i offset = do
   e ← name_entry order s i offset
   parent_of (first parent_name e.attributes)
 
-unfoldable pub entry_type_hash : RunTimeEndian → List ℕ → NameIndex → NameEntryOffset → Outcome TypeHash
+unfoldable pub entry_type_hash : RunTimeEndian → List ℕ → NameIndex → NameEntryOffset → Outcome (Option ℕ)
 entry_type_hash order s i offset = do
   e ← name_entry order s i offset
   type_hash_of (first type_hash_name e.attributes)

@@ -1,8 +1,7 @@
--- What each call of the crate answers. Entries, Series and Facts follow the files of src/. Answers: the outcome of each answer.
--- Sanity: what is proved of these. Demand3: demand 3 for entry lookups.
+-- What each call of the crate answers. Entries, Series and Facts follow the files of src/. Sanity: what is proved of these. Demand3:
+-- demand 3 for entry lookups.
 pub mod Entries
 pub mod Series
 pub mod Facts
-pub mod Answers
 pub mod Sanity
 pub mod Demand3

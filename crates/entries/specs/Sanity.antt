@@ -1,6 +1,6 @@
 -- What a reader of the definitions, and the crates above, may want to be sure of. The laws of proofs/ that have these types prove them.
 use Rattle.std.specs.Prelude.{ℕ, ◌-◌, ◌≤◌, ◌<◌, ◌≡◌, List}
-use Rattle.std.proofs.Math.Option.{some}
+use Rattle.std.specs.Prelude.{Some}
 use Rattle.reader.specs.Outcome.{answered}
 use Rattle.reader.specs.Parts.{Forward}
 use Rattle.reader.specs.Listing.{listed, items}
@@ -12,7 +12,8 @@ use Rattle.index.specs.declared.layout.Parts.{Parts}
 use Rattle.index.specs.Layout.{parts}
 use Rattle.entries.specs.declared.entry.NameEntry.{NameEntry}
 use Rattle.entries.specs.declared.series.NameEntryIter.{NameEntryIter}
-use Rattle.entries.specs.Entries.{Entry, entry, name_entry, name_entry_handed, Told, whole_entry}
+use Rattle.entries.specs.declared.entry.EntryAt.{EntryAt}
+use Rattle.entries.specs.Entries.{Entry, entry, name_entry, name_entry_handed, whole_entry}
 use Rattle.entries.specs.Series.{series_entry, entries_from, series, entry_step, whole_step}
 
 -- the bytes of an index's pool
@@ -22,7 +23,7 @@ pool_length i = i.end - (parts i).entry_pool
 -- an entry takes at least a byte and stays inside the pool
 abbrev pub EntriesForward : Type 0
 EntriesForward =
-    (order : RunTimeEndian) (s : List ℕ) (p : Parts) (at : ℕ) (e : Entry) → entry order s p at ≡ answered (some e) → Forward s at p.end e.next
+    (order : RunTimeEndian) (s : List ℕ) (p : Parts) (at : ℕ) (e : Entry) → entry order s p at ≡ answered (Some e) → Forward s at p.end e.next
 
 -- what stands from a place on is its entry and what stands past it
 abbrev pub SeriesUnfold : Type 0
@@ -42,11 +43,11 @@ HandlesBelow =
 -- the handle of an entry that a step answered leads to that entry
 abbrev pub HandlesLead : Type 0
 HandlesLead =
-    (order : RunTimeEndian) (s : List ℕ) (i : NameIndex) (c : NameEntryIter) (e : NameEntry) → (entry_step order s i c).answer ≡ answered (some e)
+    (order : RunTimeEndian) (s : List ℕ) (i : NameIndex) (c : NameEntryIter) (e : NameEntry) → (entry_step order s i c).answer ≡ answered (Some e)
     → name_entry_handed order s i e.offset ≡ answered e
 
 -- and what a step tells of it is what is read again from its handle
 abbrev pub HandlesTell : Type 0
 HandlesTell =
-    (order : RunTimeEndian) (s : List ℕ) (i : NameIndex) (c : NameEntryIter) (t : Told) → (whole_step order s i c).answer ≡ answered (some t)
+    (order : RunTimeEndian) (s : List ℕ) (i : NameIndex) (c : NameEntryIter) (t : EntryAt) → (whole_step order s i c).answer ≡ answered (Some t)
     → whole_entry order s i t.offset ≡ answered t.entry

@@ -1,6 +1,6 @@
 -- The series of a name, and the steps over it: document 01, "Entries and attributes" and the words of demand 3. `s` is the section.
 use Rattle.std.specs.Prelude.{ℕ, ◌-◌, cond, List, ltb, eqb}
-use Rattle.std.proofs.Math.Option.{Option, some, none}
+use Rattle.std.specs.Prelude.{Option, Some, None}
 use Rattle.reader.specs.Outcome.{Outcome, answered, refused, ◌>>=◌, ◌>>◌, refuse_if}
 use Rattle.reader.specs.Parts.{part_end, left_at, skipped}
 use Rattle.reader.specs.Listing.{Listing, listing, or_broken}
@@ -13,7 +13,8 @@ use Rattle.index.specs.Layout.{parts, fitted}
 use Rattle.names.specs.Units.{nth_word}
 use Rattle.entries.specs.declared.entry.NameEntry.{NameEntry}
 use Rattle.entries.specs.declared.series.NameEntryIter.{NameEntryIter}
-use Rattle.entries.specs.Entries.{Entry, entry, handed, Told, told}
+use Rattle.entries.specs.declared.entry.EntryAt.{EntryAt}
+use Rattle.entries.specs.Entries.{Entry, entry, handed, told}
 
 -- the place of a name's first entry: the entry offset that is stored for the name, counted from the pool's start
 unfoldable pub series_start : RunTimeEndian → List ℕ → NameIndex → NameTableIndex → Outcome ℕ
@@ -24,7 +25,7 @@ series_start order s i name = do
 
 -- the entry at a place, none where the series ends: at the pool's end, and at code 0
 unfoldable pub series_entry : RunTimeEndian → List ℕ → Parts → ℕ → Outcome (Option Entry)
-series_entry order s p at = cond (eqb (left_at s at p.end) 0) (answered none) (entry order s p at)
+series_entry order s p at = cond (eqb (left_at s at p.end) 0) (answered None) (entry order s p at)
 
 -- the entries from a place on, each beginning where the last ended, up to the series' end or the first refused entry
 unfoldable pub entries_from : RunTimeEndian → List ℕ → Parts → ℕ → Listing Entry
@@ -48,8 +49,8 @@ name_entries order s i name = do
 -- what a step answers: an entry, of which `shown` is shown, with the cursor past it; after an end or a refusal the cursor is at the pool's
 -- end
 unfoldable pub moved : {A : Type 0} → (Entry → A) → Parts → Outcome (Option Entry) → Step A NameEntryIter
-moved shown p (answered (some e)) = record { answer = answered (some (shown e)); cursor = cursor_at e.next }
-moved shown p (answered none) = record { answer = answered none; cursor = cursor_at p.end }
+moved shown p (answered (Some e)) = record { answer = answered (Some (shown e)); cursor = cursor_at e.next }
+moved shown p (answered None) = record { answer = answered None; cursor = cursor_at p.end }
 moved shown p (refused n v) = record { answer = refused n v; cursor = cursor_at p.end }
 
 -- the step; 13 and 14 of the index are tested first, then that the cursor lies in the pool or at its end
@@ -65,5 +66,5 @@ unfoldable pub entry_step : RunTimeEndian → List ℕ → NameIndex → NameEnt
 entry_step = step_showing handed
 
 -- `NameEntryIter::next_whole`: it is shown with the first attribute of each name
-unfoldable pub whole_step : RunTimeEndian → List ℕ → NameIndex → NameEntryIter → Step Told NameEntryIter
+unfoldable pub whole_step : RunTimeEndian → List ℕ → NameIndex → NameEntryIter → Step EntryAt NameEntryIter
 whole_step = step_showing told

@@ -1,12 +1,13 @@
 // An entry of the pool (gimli's `NameEntry::parse` and `NameIndex::name_entry`). The handle of an entry is its offset in the pool.
+// (order, section, index) stay parameters: with a struct that lends the section, contracts are no plainer (docs/DECISIONS.md).
 ghost use Rattle.std.specs.Prelude.{◌≡◌};
-ghost use Rattle.entries.specs.Answers.{pool_outcome, whole_outcome, entry_outcome};
-ghost use Rattle.entries.specs.Entries.{entry_read, whole_entry, name_entry_handed};
+ghost use Rattle.reader.specs.Answers.{outcome};
+ghost use Rattle.entries.specs.Entries.{less_whole, entry_read, whole_entry, name_entry_handed};
 
-use abbreviations::{Abbreviation, AbbreviationRead, get};
-use attributes::{Facts, FactsRead, read_facts};
-use index::{NameIndex, Parts, PartsRead, fit};
-use reader::{Error, NameEntryOffset, RunTimeEndian, Skipped, U64Read, skip};
+use abbreviations::get;
+use attributes::{Facts, read_facts};
+use index::{NameIndex, Parts, fit};
+use reader::{Error, NameEntryOffset, RunTimeEndian, skip};
 
 // An entry: its handle, its abbreviation code and its tag.
 #[derive(Clone, Copy)]
@@ -14,12 +15,6 @@ pub struct NameEntry {
     pub offset: NameEntryOffset,
     pub abbrev_code: u64,
     pub tag: u16,
-}
-
-#[derive(Clone, Copy)]
-pub enum EntryRead {
-    Value(NameEntry),
-    Refused(Error),
 }
 
 // All that one pass over an entry tells: its abbreviation code, its tag, the first attribute of each name, and the place past it.
@@ -31,90 +26,77 @@ pub struct WholeEntry {
     pub next: usize,
 }
 
+// An entry read whole, with its handle.
 #[derive(Clone, Copy)]
-pub enum WholeRead {
-    Value(WholeEntry),
-    Refused(Error),
+pub struct EntryAt {
+    pub offset: NameEntryOffset,
+    pub entry: WholeEntry,
 }
 
-// What stands at a place of the pool: an entry, or the code 0 that ends a series.
-#[derive(Clone, Copy)]
-pub enum PoolRead {
-    Entry(WholeEntry),
-    End,
-    Refused(Error),
+impl From<EntryAt> for NameEntry {
+    ghost from_gives = { λ e entry. entry ≡ less_whole e };
+
+    fn from(e: EntryAt) -> NameEntry {
+        NameEntry {
+            offset: e.offset,
+            abbrev_code: e.entry.abbrev_code,
+            tag: e.entry.tag,
+        }
+    }
 }
 
 // The entry at a place of the pool. An entry whose code no declaration has is refused with 8.
-pub fn read_entry(order: RunTimeEndian, section: &[u8], p: Parts, at: usize) -> PoolRead
-    ensures { pool_outcome result ≡ entry_read order section.now p at }
+#[tactic(auto, using(crate::proofs::EntryLaws::read_step), unfolding(crate::proofs::EntryLaws::with_found))]
+#[inline(always)]
+pub fn read_entry(
+    order: RunTimeEndian,
+    section: &[u8],
+    p: Parts,
+    at: usize,
+) -> Result<Option<WholeEntry>, Error>
+    ensures { outcome result ≡ entry_read order section.now p at }
 {
-    let code = match leb128::read::unsigned(section, at, p.end) {
-        U64Read::Value(r) => r,
-        U64Read::Refused(e) => return PoolRead::Refused(e),
-    };
+    let code = leb128::read::unsigned(section, at, p.end)?;
     if code.value == 0 {
-        return PoolRead::End;
+        return Ok(None);
     }
-    let found = match get(section, p.abbreviation_table, p.entry_pool, code.value) {
-        AbbreviationRead::Value(a) => a,
-        AbbreviationRead::Refused(e) => return PoolRead::Refused(e),
+    let Some(d) = get(section, p.abbreviation_table, p.entry_pool, code.value)? else {
+        return Err(Error::InvalidAbbreviationCode(code.value));
     };
-    let Abbreviation::Found(d) = found else {
-        return PoolRead::Refused(Error::InvalidAbbreviationCode(code.value));
-    };
-    let read = match read_facts(order, section, d.attributes, p.entry_pool, code.next, p.end) {
-        FactsRead::Value(f) => f,
-        FactsRead::Refused(e) => return PoolRead::Refused(e),
-    };
-    let facts = read.facts;
-    PoolRead::Entry(WholeEntry {
+    let facts = read_facts(order, section, d.attributes, p.entry_pool, code.next, p.end)?;
+    Ok(Some(WholeEntry {
         abbrev_code: code.value,
         tag: d.tag,
-        facts: facts,
-        next: read.next,
-    })
+        facts: facts.value,
+        next: facts.next,
+    }))
 }
 
 // The entry with that handle, read whole. At a zero code it is refused with 10.
+#[tactic(auto, using(crate::proofs::EntryLaws::whole_step_lem))]
 pub fn whole_entry(
     order: RunTimeEndian,
     section: &[u8],
     index: NameIndex,
     offset: NameEntryOffset,
-) -> WholeRead
-    ensures { whole_outcome result ≡ whole_entry order section.now index offset }
+) -> Result<WholeEntry, Error>
+    ensures { outcome result ≡ whole_entry order section.now index offset }
 {
-    let p = match fit(section, index) {
-        PartsRead::Value(p) => p,
-        PartsRead::Refused(e) => return WholeRead::Refused(e),
-    };
-    let at = match skip(offset.0, section, p.entry_pool, p.end) {
-        Skipped::To(place) => place,
-        Skipped::Refused(e) => return WholeRead::Refused(e),
-    };
-    match read_entry(order, section, p, at) {
-        PoolRead::Entry(w) => WholeRead::Value(w),
-        PoolRead::End => WholeRead::Refused(Error::NoEntryAtGivenOffset(offset)),
-        PoolRead::Refused(e) => WholeRead::Refused(e),
-    }
+    let p = fit(section, index)?;
+    let at = skip(offset.0, section, p.entry_pool, p.end)?;
+    read_entry(order, section, p, at)?.ok_or(Error::NoEntryAtGivenOffset(offset))
 }
 
 // The entry with that handle.
+#[tactic(auto, using(crate::proofs::EntryLaws::name_entry_step))]
 pub fn name_entry(
     order: RunTimeEndian,
     section: &[u8],
     index: NameIndex,
     offset: NameEntryOffset,
-) -> EntryRead
-    ensures { entry_outcome result ≡ name_entry_handed order section.now index offset }
+) -> Result<NameEntry, Error>
+    ensures { outcome result ≡ name_entry_handed order section.now index offset }
 {
-    match whole_entry(order, section, index, offset) {
-        WholeRead::Value(w) => EntryRead::Value(NameEntry {
-            offset: offset,
-            abbrev_code: w.abbrev_code,
-            tag: w.tag,
-        }),
-        WholeRead::Refused(e) => EntryRead::Refused(e),
-    }
+    let entry = whole_entry(order, section, index, offset)?;
+    Ok(NameEntry::from(EntryAt { offset, entry }))
 }

@@ -8,8 +8,6 @@ pub mod entry; // an entry, at a place of the pool or by its handle
 pub mod series; // the entries of a name, one after another
 pub mod facts; // the five facts of an entry
 
-pub use entry::{
-    EntryRead, NameEntry, PoolRead, WholeEntry, WholeRead, name_entry, read_entry, whole_entry,
-};
+pub use entry::{EntryAt, NameEntry, WholeEntry, name_entry, read_entry, whole_entry};
 pub use facts::{compile_unit, die_offset, parent, type_hash, type_unit};
-pub use series::{EntriesRead, NameEntryIter, NameEntryStep, WholeEntryStep, name_entries};
+pub use series::{NameEntryIter, name_entries};

@@ -1,224 +1,150 @@
 // The calls of the crate `entries`, a line for each: the section's name, the call with its number, and the answer.
-use attributes::{
-    DieOffset, DieOffsetRead, EntryParent, EntryTypeUnit, EntryTypeUnitRead, EntryUnit,
-    EntryUnitRead, ParentRead, TypeHash, TypeHashRead,
-};
-use entries::{
-    EntriesRead, EntryRead, NameEntry, NameEntryIter, NameEntryStep, name_entries, name_entry,
-};
+use attributes::EntryParent;
+use entries::{NameEntry, NameEntryIter, name_entries, name_entry};
 use index::NameIndex;
 use names::NameTypeUnit;
-use reader::{NameEntryOffset, NameTableIndex, RunTimeEndian};
+use reader::{DebugInfoOffset, Error, NameEntryOffset, NameTableIndex, RunTimeEndian, UnitOffset};
 use std::io;
 
-// What is asked: the name of the section, the call and its number.
-fn head(rt: &impl Print, on: &[u8], call: &[u8], n: u64) -> io::Result<()> {
-    show::text(rt, on)?;
-    show::text(rt, call)?;
-    number(rt, n)?;
-    show::text(rt, b":")
+// What the calls are made on: an index of a section in its byte order, and the section's name, which is printed before each call.
+#[derive(Clone, Copy)]
+pub struct On<'a> {
+    pub title: &'a [u8],
+    pub order: RunTimeEndian,
+    pub section: &'a [u8],
+    pub index: NameIndex,
 }
 
-// A number, after a space.
-fn number(rt: &impl Print, n: u64) -> io::Result<()> {
-    show::text(rt, b" ")?;
-    show::decimal(rt, n)
+impl<'a> On<'a> {
+    // The little-endian order, which most cases have.
+    pub fn little(title: &'a [u8], section: &'a [u8], index: NameIndex) -> Self {
+        On {
+            title,
+            order: RunTimeEndian::Little,
+            section,
+            index,
+        }
+    }
+
+    // What is asked: the name of the section, the call and its number.
+    fn head(self, rt: &impl Print, call: &[u8], n: u64) -> io::Result<()> {
+        show::text(rt, self.title)?;
+        show::text(rt, call)?;
+        print!(rt; " {n}:")
+    }
+
+    // A step of a cursor: the entry or the end, and the place of the cursor after it, which is handed back.
+    fn stepped(self, rt: &impl Print, cursor: NameEntryIter) -> io::Result<NameEntryIter> {
+        self.head(rt, b", step from", cursor.at as u64)?;
+        let step = cursor.next(self.order, self.section, self.index);
+        show::step(
+            rt,
+            step.answer,
+            step.cursor.at as u64,
+            |e| show::numbers(rt, &handle(e)),
+        )?;
+        Ok(step.cursor)
+    }
+
+    // A step of the cursor that stands at a place.
+    pub fn step(self, rt: &impl Print, at: usize) -> io::Result<()> {
+        self.stepped(rt, NameEntryIter { at })?;
+        Ok(())
+    }
+
+    // The series of a name: the place of its cursor, and then so many steps.
+    pub fn series(self, rt: &impl Print, name: u32, steps: usize) -> io::Result<()> {
+        self.head(rt, b", name_entries", name as u64)?;
+        let r = name_entries(self.order, self.section, self.index, NameTableIndex(name));
+        show::numbers_read(rt, r.map(|cursor| [cursor.at as u64]))?;
+        if let Ok(mut cursor) = r {
+            for _ in 0..steps {
+                cursor = self.stepped(rt, cursor)?;
+            }
+        }
+        Ok(())
+    }
+
+    // The entry at an offset.
+    pub fn entry(self, rt: &impl Print, offset: usize) -> io::Result<()> {
+        self.head(rt, b", name_entry", offset as u64)?;
+        let r = name_entry(
+            self.order,
+            self.section,
+            self.index,
+            NameEntryOffset(offset),
+        );
+        show::numbers_read(rt, r.map(handle))
+    }
+
+    // The entries at the first offsets, whether or not an entry begins there.
+    pub fn entries(self, rt: &impl Print, count: usize) -> io::Result<()> {
+        for offset in 0..count {
+            self.entry(rt, offset)?;
+        }
+        Ok(())
+    }
+
+    // The entries at some offsets and their facts.
+    pub fn listed(self, rt: &impl Print, offsets: &[usize]) -> io::Result<()> {
+        for offset in offsets {
+            self.facts(rt, *offset)?;
+        }
+        Ok(())
+    }
+
+    // The entry at an offset and its five facts.
+    pub fn facts(self, rt: &impl Print, at: usize) -> io::Result<()> {
+        let On {
+            order,
+            section,
+            index,
+            ..
+        } = self;
+        let offset = NameEntryOffset(at);
+        self.entry(rt, at)?;
+        self.head(rt, b", compile_unit", at as u64)?;
+        compile_unit(rt, entries::compile_unit(order, section, index, offset))?;
+        self.head(rt, b", type_unit", at as u64)?;
+        type_unit(rt, entries::type_unit(order, section, index, offset))?;
+        self.head(rt, b", die_offset", at as u64)?;
+        die_offset(rt, entries::die_offset(order, section, index, offset))?;
+        self.head(rt, b", parent", at as u64)?;
+        parent(rt, entries::parent(order, section, index, offset))?;
+        self.head(rt, b", type_hash", at as u64)?;
+        type_hash(rt, entries::type_hash(order, section, index, offset))
+    }
 }
 
 // An entry: its offset, its code and its tag.
-fn handle(rt: &impl Print, e: NameEntry) -> io::Result<()> {
-    let offset = e.offset;
-    show::text(rt, b" ok")?;
-    number(rt, offset.0 as u64)?;
-    number(rt, e.abbrev_code)?;
-    number(rt, e.tag as u64)
+fn handle(e: NameEntry) -> [u64; 3] {
+    [e.offset.0 as u64, e.abbrev_code, e.tag as u64]
 }
 
-// A step of the cursor that stands at a place: the entry or the end, and the place of the cursor after it, which is handed back.
-pub fn step(
-    rt: &impl Print,
-    on: &[u8],
-    order: RunTimeEndian,
-    s: &[u8],
-    i: NameIndex,
-    at: usize,
-) -> io::Result<usize> {
-    let cursor = NameEntryIter { at: at };
-    head(rt, on, b", step from", at as u64)?;
-    let after = match cursor.next(order, s, i) {
-        NameEntryStep::End(c) => {
-            show::text(rt, b" ok end")?;
-            c.at
-        }
-        NameEntryStep::Entry(e, c) => {
-            handle(rt, e)?;
-            c.at
-        }
-        NameEntryStep::Refused(e, c) => {
-            show::text(rt, b" refused")?;
-            number(rt, e.number() as u64)?;
-            number(rt, e.value())?;
-            c.at
-        }
-    };
-    show::text(rt, b" cursor")?;
-    number(rt, after as u64)?;
-    show::text(rt, b"\n")?;
-    Ok(after)
+fn compile_unit(rt: &impl Print, r: Result<Option<DebugInfoOffset>, Error>) -> io::Result<()> {
+    show::numbers_found(rt, r.map(|unit| unit.map(|u| [u.0 as u64])))
 }
 
-// The series of a name: the place of its cursor, and then so many steps, each from where the one before it left the cursor.
-pub fn series(
-    rt: &impl Print,
-    on: &[u8],
-    order: RunTimeEndian,
-    s: &[u8],
-    i: NameIndex,
-    name: u32,
-    steps: usize,
-) -> io::Result<()> {
-    head(rt, on, b", name_entries", name as u64)?;
-    let mut at = match name_entries(order, s, i, NameTableIndex(name)) {
-        EntriesRead::Value(c) => c.at,
-        EntriesRead::Refused(e) => {
-            return show::refused(rt, e);
-        }
-    };
-    show::text(rt, b" ok")?;
-    number(rt, at as u64)?;
-    show::text(rt, b"\n")?;
-    for n in 0..steps {
-        at = step(rt, on, order, s, i, at)?;
-    }
-    Ok(())
+fn type_unit(rt: &impl Print, r: Result<Option<NameTypeUnit>, Error>) -> io::Result<()> {
+    show::answer(rt, r, |unit| match unit {
+        Some(NameTypeUnit::Local(u)) => println!(rt; " ok local {}", u.0),
+        Some(NameTypeUnit::Foreign(t)) => println!(rt; " ok foreign {}", t.0),
+        None => show::text(rt, b" ok none\n"),
+    })
 }
 
-// The entry at an offset.
-pub fn entry(
-    rt: &impl Print,
-    on: &[u8],
-    order: RunTimeEndian,
-    s: &[u8],
-    i: NameIndex,
-    offset: usize,
-) -> io::Result<()> {
-    head(rt, on, b", name_entry", offset as u64)?;
-    match name_entry(order, s, i, NameEntryOffset(offset)) {
-        EntryRead::Value(e) => {
-            handle(rt, e)?;
-            show::text(rt, b"\n")
-        }
-        EntryRead::Refused(e) => show::refused(rt, e),
-    }
+fn die_offset(rt: &impl Print, r: Result<Option<UnitOffset>, Error>) -> io::Result<()> {
+    show::numbers_found(rt, r.map(|offset| offset.map(|o| [o.0 as u64])))
 }
 
-// The entries at the first offsets, whether or not an entry begins there.
-pub fn entries(
-    rt: &impl Print,
-    on: &[u8],
-    order: RunTimeEndian,
-    s: &[u8],
-    i: NameIndex,
-    count: usize,
-) -> io::Result<()> {
-    for offset in 0..count {
-        entry(rt, on, order, s, i, offset)?;
-    }
-    Ok(())
+fn parent(rt: &impl Print, r: Result<EntryParent, Error>) -> io::Result<()> {
+    show::answer(rt, r, |parent| match parent {
+        EntryParent::Entry(o) => println!(rt; " ok entry {}", o.0),
+        EntryParent::NoParent => show::text(rt, b" ok no parent\n"),
+        EntryParent::NotKnown => show::text(rt, b" ok not known\n"),
+    })
 }
 
-// The entry at an offset and its five facts.
-pub fn facts(
-    rt: &impl Print,
-    on: &[u8],
-    order: RunTimeEndian,
-    s: &[u8],
-    i: NameIndex,
-    offset: usize,
-) -> io::Result<()> {
-    entry(rt, on, order, s, i, offset)?;
-    head(rt, on, b", compile_unit", offset as u64)?;
-    compile_unit(
-        rt,
-        entries::compile_unit(order, s, i, NameEntryOffset(offset)),
-    )?;
-    head(rt, on, b", type_unit", offset as u64)?;
-    type_unit(rt, entries::type_unit(order, s, i, NameEntryOffset(offset)))?;
-    head(rt, on, b", die_offset", offset as u64)?;
-    die_offset(
-        rt,
-        entries::die_offset(order, s, i, NameEntryOffset(offset)),
-    )?;
-    head(rt, on, b", parent", offset as u64)?;
-    parent(rt, entries::parent(order, s, i, NameEntryOffset(offset)))?;
-    head(rt, on, b", type_hash", offset as u64)?;
-    type_hash(rt, entries::type_hash(order, s, i, NameEntryOffset(offset)))
-}
-
-fn compile_unit(rt: &impl Print, r: EntryUnitRead) -> io::Result<()> {
-    match r {
-        EntryUnitRead::Value(unit) => match unit {
-            EntryUnit::Some(u) => show::ok1(rt, u.0 as u64),
-            EntryUnit::None => show::text(rt, b" ok none\n"),
-        },
-        EntryUnitRead::Refused(e) => show::refused(rt, e),
-    }
-}
-
-fn type_unit(rt: &impl Print, r: EntryTypeUnitRead) -> io::Result<()> {
-    let unit = match r {
-        EntryTypeUnitRead::Value(u) => u,
-        EntryTypeUnitRead::Refused(e) => {
-            return show::refused(rt, e);
-        }
-    };
-    let EntryTypeUnit::Some(found) = unit else {
-        return show::text(rt, b" ok none\n");
-    };
-    match found {
-        NameTypeUnit::Local(u) => {
-            show::text(rt, b" ok local")?;
-            number(rt, u.0 as u64)?;
-        }
-        NameTypeUnit::Foreign(t) => {
-            show::text(rt, b" ok foreign")?;
-            number(rt, t.0)?;
-        }
-    }
-    show::text(rt, b"\n")
-}
-
-fn die_offset(rt: &impl Print, r: DieOffsetRead) -> io::Result<()> {
-    match r {
-        DieOffsetRead::Value(offset) => match offset {
-            DieOffset::Some(o) => show::ok1(rt, o.0 as u64),
-            DieOffset::None => show::text(rt, b" ok none\n"),
-        },
-        DieOffsetRead::Refused(e) => show::refused(rt, e),
-    }
-}
-
-fn parent(rt: &impl Print, r: ParentRead) -> io::Result<()> {
-    match r {
-        ParentRead::Value(p) => match p {
-            EntryParent::Entry(o) => {
-                show::text(rt, b" ok entry")?;
-                number(rt, o.0 as u64)?;
-                show::text(rt, b"\n")
-            }
-            EntryParent::NoParent => show::text(rt, b" ok no parent\n"),
-            EntryParent::NotKnown => show::text(rt, b" ok not known\n"),
-        },
-        ParentRead::Refused(e) => show::refused(rt, e),
-    }
-}
-
-fn type_hash(rt: &impl Print, r: TypeHashRead) -> io::Result<()> {
-    match r {
-        TypeHashRead::Value(hash) => match hash {
-            TypeHash::Some(h) => show::ok1(rt, h),
-            TypeHash::None => show::text(rt, b" ok none\n"),
-        },
-        TypeHashRead::Refused(e) => show::refused(rt, e),
-    }
+fn type_hash(rt: &impl Print, r: Result<Option<u64>, Error>) -> io::Result<()> {
+    show::numbers_found(rt, r.map(|hash| hash.map(|h| [h])))
 }

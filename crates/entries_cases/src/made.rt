@@ -1,7 +1,7 @@
 // Handles that are made of numbers: pools with another end, indexes and cursors that do not fit, and tables that no opened index has.
+use crate::calls::On;
+use crate::sections;
 use crate::sections::{FAR, made};
-use crate::{calls, sections};
-use index::NameIndex;
 use reader::{Format, RunTimeEndian};
 use std::io;
 
@@ -9,80 +9,47 @@ use std::io;
 // of its bytes, and a byte behind it. It is whole in the pool that ends at 149.
 pub fn pools(rt: &impl Print, s: &[u8]) -> io::Result<()> {
     for end in 142..151 {
-        show::text(rt, b"bad series, pool to ")?;
-        show::decimal(rt, end as u64)?;
+        print!(rt; "bad series, pool to {end}")?;
         let i = made(Format::Dwarf32, 0, 0, 6, 30, 36, end);
-        calls::step(rt, b"", RunTimeEndian::Little, s, i, 142)?;
+        On::little(b"", s, i).step(rt, 142)?;
     }
     let whole = made(Format::Dwarf32, 0, 0, 6, 30, 36, 149);
-    calls::facts(
-        rt,
-        b"bad series, pool to 149",
-        RunTimeEndian::Little,
-        s,
-        whole,
-        28,
-    )
+    On::little(b"bad series, pool to 149", s, whole).facts(rt, 28)
 }
 
 // Case A's index with another end. It does not fit if that is past the section or before the pool. Up to 100 the second entry lacks a
 // part of its DIE offset at 98, and the third lies outside; up to 91 the pool is empty.
 pub fn misfits(rt: &impl Print, a: &[u8]) -> io::Result<()> {
-    handle(
-        rt,
-        b"index to 110",
-        a,
-        made(Format::Dwarf32, 1, 2, 3, 7, 36, 110),
-    )?;
-    handle(
-        rt,
-        b"index to 90",
-        a,
-        made(Format::Dwarf32, 1, 2, 3, 7, 36, 90),
-    )?;
-    handle(
-        rt,
-        b"index to the largest place",
-        a,
-        made(Format::Dwarf32, 1, 2, 3, 7, 36, FAR),
-    )?;
-    handle(
-        rt,
-        b"index to 100",
-        a,
-        made(Format::Dwarf32, 1, 2, 3, 7, 36, 100),
-    )?;
-    handle(
-        rt,
-        b"index to 91",
-        a,
-        made(Format::Dwarf32, 1, 2, 3, 7, 36, 91),
-    )
+    misfit(rt, b"index to 110", a, 110)?;
+    misfit(rt, b"index to 90", a, 90)?;
+    misfit(rt, b"index to the largest place", a, FAR)?;
+    misfit(rt, b"index to 100", a, 100)?;
+    misfit(rt, b"index to 91", a, 91)
 }
 
-// Each call that takes an index. A cursor that does not fit comes back as it was.
-fn handle(rt: &impl Print, on: &[u8], a: &[u8], i: NameIndex) -> io::Result<()> {
-    calls::series(rt, on, RunTimeEndian::Little, a, i, 0, 3)?;
-    calls::series(rt, on, RunTimeEndian::Little, a, i, 1, 2)?;
-    calls::series(rt, on, RunTimeEndian::Little, a, i, 2, 1)?;
-    calls::series(rt, on, RunTimeEndian::Little, a, i, 4, 1)?;
-    calls::step(rt, on, RunTimeEndian::Little, a, i, 91)?;
-    calls::step(rt, on, RunTimeEndian::Little, a, i, 103)?;
-    calls::step(rt, on, RunTimeEndian::Little, a, i, FAR)?;
-    calls::facts(rt, on, RunTimeEndian::Little, a, i, 6)?;
-    calls::facts(rt, on, RunTimeEndian::Little, a, i, 19)
+// Each call that takes an index. A cursor that does not fit stays as it was.
+fn misfit(rt: &impl Print, title: &[u8], a: &[u8], end: usize) -> io::Result<()> {
+    let on = On::little(title, a, made(Format::Dwarf32, 1, 2, 3, 7, 36, end));
+    on.series(rt, 0, 3)?;
+    on.series(rt, 1, 2)?;
+    on.series(rt, 2, 1)?;
+    on.series(rt, 4, 1)?;
+    on.step(rt, 91)?;
+    on.step(rt, 103)?;
+    on.step(rt, FAR)?;
+    on.facts(rt, 6)?;
+    on.facts(rt, 19)
 }
 
 // Case A's pool goes from 91 to 109. A cursor below it or past its end does not fit; one inside it answers what the bytes say, whether
 // or not an entry begins there.
 pub fn cursors(rt: &impl Print, a: &[u8]) -> io::Result<()> {
-    let i = sections::opened(a);
-    calls::step(rt, b"cursor", RunTimeEndian::Little, a, i, 0)?;
+    let on = On::little(b"cursor", a, sections::opened(a));
+    on.step(rt, 0)?;
     for at in 89..112 {
-        calls::step(rt, b"cursor", RunTimeEndian::Little, a, i, at)?;
+        on.step(rt, at)?;
     }
-    calls::step(rt, b"cursor", RunTimeEndian::Little, a, i, FAR)?;
-    Ok(())
+    on.step(rt, FAR)
 }
 
 // The second declaration as it is, and with a byte that makes it bad: its tag is 0 (80 80 00), its pair is (0, 0x11), its pair is (3, 0),
@@ -97,36 +64,42 @@ pub fn tables(rt: &impl Print) -> io::Result<()> {
     short(rt, &t)
 }
 
-fn table(rt: &impl Print, on: &[u8], at: usize, value: u8) -> io::Result<()> {
+fn table(rt: &impl Print, title: &[u8], at: usize, value: u8) -> io::Result<()> {
     let mut t = sections::TABLE;
-    if 45 <= at {
-        return Ok(());
+    if let Some(byte) = t.get_mut(at) {
+        *byte = value;
     }
-    t[at] = value;
-    searched(rt, on, &t)
+    searched(rt, title, &t)
 }
 
 // Code 1 is declared before the bad declaration and is answered; codes 2 and 3 and those without a declaration are refused as it is. At
 // o 7 is code 0, for which no declaration is searched.
-fn searched(rt: &impl Print, on: &[u8], t: &[u8]) -> io::Result<()> {
-    let i = made(Format::Dwarf32, 0, 0, 2, 21, 0, 45);
-    calls::series(rt, on, RunTimeEndian::Little, t, i, 0, 3)?;
-    calls::series(rt, on, RunTimeEndian::Little, t, i, 1, 2)?;
-    calls::entries(rt, on, RunTimeEndian::Little, t, i, 10)?;
-    calls::facts(rt, on, RunTimeEndian::Little, t, i, 0)?;
-    calls::facts(rt, on, RunTimeEndian::Little, t, i, 4)
+fn searched(rt: &impl Print, title: &[u8], t: &[u8]) -> io::Result<()> {
+    let on = On::little(title, t, made(Format::Dwarf32, 0, 0, 2, 21, 0, 45));
+    on.series(rt, 0, 3)?;
+    on.series(rt, 1, 2)?;
+    on.entries(rt, 10)?;
+    on.facts(rt, 0)?;
+    on.facts(rt, 4)
 }
 
 // The table cut short at 34, inside the third declaration, and the pool from there on: 00 00 00, and then what is above. And the same
 // bytes as a 64-bit index with one name: its entry offset at 8 is 2^34, in the other byte order 2^26.
 fn short(rt: &impl Print, t: &[u8]) -> io::Result<()> {
-    let i = made(Format::Dwarf32, 0, 0, 2, 18, 0, 45);
-    calls::series(rt, b"table to 34", RunTimeEndian::Little, t, i, 1, 2)?;
-    calls::entries(rt, b"table to 34", RunTimeEndian::Little, t, i, 13)?;
+    let cut = made(Format::Dwarf32, 0, 0, 2, 18, 0, 45);
+    let on = On::little(b"table to 34", t, cut);
+    on.series(rt, 1, 2)?;
+    on.entries(rt, 13)?;
     let wide = made(Format::Dwarf64, 0, 0, 1, 21, 0, 45);
-    calls::series(rt, b"64-bit", RunTimeEndian::Little, t, wide, 0, 1)?;
-    calls::series(rt, b"64-bit, big", RunTimeEndian::Big, t, wide, 0, 1)?;
-    calls::series(rt, b"64-bit", RunTimeEndian::Little, t, wide, 1, 1)?;
-    calls::series(rt, b"64-bit", RunTimeEndian::Little, t, wide, 2, 1)?;
-    calls::facts(rt, b"64-bit", RunTimeEndian::Little, t, wide, 4)
+    let on = On::little(b"64-bit", t, wide);
+    let big = On {
+        title: b"64-bit, big",
+        order: RunTimeEndian::Big,
+        ..on
+    };
+    on.series(rt, 0, 1)?;
+    big.series(rt, 0, 1)?;
+    on.series(rt, 1, 1)?;
+    on.series(rt, 2, 1)?;
+    on.facts(rt, 4)
 }

@@ -1,9 +1,9 @@
 // The sections of the cases, and the handles on them. In a layout, o is an offset in the pool.
-use headers::{DebugNames, HeaderStep};
-use index::{IndexRead, NameIndex};
+use headers::DebugNames;
+use index::NameIndex;
 use reader::{Format, RunTimeEndian};
 
-pub const FAR: usize = 18446744073709551615;
+pub const FAR: usize = usize::MAX;
 
 // Document 01's case A: its unit at 36, starts at 40, hashes at 48, strings at 60, entry offsets 0, 6 and 12 at 72, abbreviations at
 // 84 (code 1, tag 46: die_offset ref4), and the pool from 91 to 109:
@@ -86,31 +86,37 @@ pub const SERIES: [u8; 152] =
 pub const TABLE: [u8; 45] =
     *b"\x00\x00\x00\x00\x00\x00\x00\x00\x00\x00\x00\x00\x04\x00\x00\x00\x01\x2e\x03\x11\x00\x00\x02\xb4\x80\x00\x03\x11\x00\x00\x03\x3a\x03\x11\x00\x00\x00\x01\x20\x02\x21\x03\x22\x09\x00";
 
-// An index of any numbers.
-pub fn made(format: Format, c: u32, b: u32, n: u32, a: u32, begin: usize, end: usize) -> NameIndex {
+// An index of any numbers, without type units.
+pub fn made(
+    format: Format,
+    compile_unit_count: u32,
+    bucket_count: u32,
+    name_count: u32,
+    abbrev_table_size: u32,
+    begin: usize,
+    end: usize,
+) -> NameIndex {
     NameIndex {
-        format: format,
-        compile_unit_count: c,
-        local_type_unit_count: 0,
-        foreign_type_unit_count: 0,
-        bucket_count: b,
-        name_count: n,
-        abbrev_table_size: a,
-        begin: begin,
-        end: end,
+        format,
+        compile_unit_count,
+        bucket_count,
+        name_count,
+        abbrev_table_size,
+        begin,
+        end,
+        ..NameIndex::default()
     }
 }
 
 // The first index of a section, opened; where that is refused, an index that fits no section.
 pub fn opened(s: &[u8]) -> NameIndex {
-    let nothing = made(Format::Dwarf32, 0, 0, 0, 0, FAR, FAR);
-    let first = DebugNames::headers();
-    match first.next(RunTimeEndian::Little, s) {
-        HeaderStep::Header(h, _) => match NameIndex::new(s, h) {
-            IndexRead::Value(i) => i,
-            IndexRead::Refused(_) => nothing,
-        },
-        HeaderStep::End(_) => nothing,
-        HeaderStep::Refused(_, _) => nothing,
-    }
+    first(s).unwrap_or(made(Format::Dwarf32, 0, 0, 0, 0, FAR, FAR))
+}
+
+fn first(s: &[u8]) -> Option<NameIndex> {
+    let header = DebugNames::headers()
+        .next(RunTimeEndian::Little, s)
+        .answer
+        .ok()??;
+    NameIndex::new(s, header).ok()
 }

@@ -2,14 +2,15 @@
 use Prim.Native.Nat.{ℕ}
 use mathlib.Core.Path.{◌≡◌, refl}
 use mathlib.Core.List.{List}
-use mathlib.Core.Option.{Option, some, none}
+use Rattle.std.specs.Prelude.{Option, Some, None}
 use Rattle.reader.specs.Outcome.{Outcome, answered, refused, ◌>>=◌}
 use Rattle.reader.specs.declared.endianity.RunTimeEndian.{RunTimeEndian}
 use Rattle.reader.specs.declared.common.NameEntryOffset.{NameEntryOffset}
 use Rattle.index.specs.declared.layout.NameIndex.{NameIndex}
 use Rattle.entries.specs.declared.entry.WholeEntry.{WholeEntry}
 use Rattle.entries.specs.declared.series.NameEntryIter.{NameEntryIter}
-use Rattle.entries.specs.Entries.{whole_entry, Told}
+use Rattle.entries.specs.Entries.{whole_entry}
+use Rattle.entries.specs.declared.entry.EntryAt.{EntryAt}
 use Rattle.entries.specs.Series.{whole_step}
 use Rattle.entries.proofs.EntryLaws.{name_entry_step}
 use Rattle.entries.proofs.SeriesLaws.{less_of, entry_step_lem, handles_tell}
@@ -48,8 +49,8 @@ step_whole order s i c = rw (entry_step_lem order s i c) (by_answer (whole_step 
     next : ℕ
     next = (whole_step order s i c).cursor.at
 
-    by_answer : (o : Outcome (Option Told)) → (whole_step order s i c).answer ≡ o
+    by_answer : (o : Outcome (Option EntryAt)) → (whole_step order s i c).answer ≡ o
         → entry_step_in (facts_at order s i) next (o >>= λ t. answered (less_of t)) ≡ whole_step_in (facts_of order s i) next o
-    by_answer (answered (some t)) gave = rw (facts-whole order s i t.offset t.entry (handles_tell order s i c t gave)) refl
-    by_answer (answered none) gave = refl
+    by_answer (answered (Some t)) gave = rw (facts-whole order s i t.offset t.entry (handles_tell order s i c t gave)) refl
+    by_answer (answered None) gave = refl
     by_answer (refused n v) gave = refl

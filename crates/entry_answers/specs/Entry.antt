@@ -1,50 +1,50 @@
 -- Entries and their five facts, as they are handed over: document 01, "Entries and attributes". `s` is the section.
 use Rattle.std.specs.Prelude.{ℕ, List}
-use Rattle.std.proofs.Math.Option.{Option, some, none}
+use Rattle.std.specs.Prelude.{Option, Some, None}
 use Rattle.reader.specs.Outcome.{Outcome, answered, refused}
 use Rattle.reader.specs.Steps.{Step}
 use Rattle.reader.specs.declared.endianity.RunTimeEndian.{RunTimeEndian}
 use Rattle.reader.specs.declared.common.NameEntryOffset.{NameEntryOffset}
 use Rattle.index.specs.declared.layout.NameIndex.{NameIndex}
-use Rattle.attributes.specs.declared.attribute.DieOffset.{DieOffset}
 use Rattle.attributes.specs.declared.attribute.EntryParent.{EntryParent}
-use Rattle.attributes.specs.declared.attribute.TypeHash.{TypeHash}
 use Rattle.attributes.specs.declared.facts.Facts.{Facts}
-use Rattle.attributes.specs.declared.units.EntryUnit.{EntryUnit}
-use Rattle.attributes.specs.declared.units.EntryTypeUnit.{EntryTypeUnit}
 use Rattle.attributes.specs.Meaning.{compile_unit_of, type_unit_of, die_offset_of, parent_of, type_hash_of}
 use Rattle.entries.specs.declared.entry.NameEntry.{NameEntry}
 use Rattle.entries.specs.declared.entry.WholeEntry.{WholeEntry}
 use Rattle.entries.specs.declared.series.NameEntryIter.{NameEntryIter}
-use Rattle.entries.specs.Entries.{name_entry_handed, Told}
+use Rattle.entries.specs.Entries.{name_entry_handed, less_whole}
+use Rattle.entries.specs.declared.entry.EntryAt.{EntryAt}
 use Rattle.entries.specs.Series.{entry_step}
 use Rattle.entries.specs.Facts.{entry_compile_unit, entry_type_unit, entry_die_offset, entry_parent, entry_type_hash}
 use Rattle.answers.specs.declared.Answer.{Answer}
 use Rattle.entry_answers.specs.declared.EntryFacts.{EntryFacts}
 use Rattle.entry_answers.specs.declared.EntryAnswer.{EntryAnswer}
 use Rattle.answers.specs.Answers.{given, nothing, refused_answer, handed, type_unit_answer}
+use Rattle.names.specs.declared.units.NameTypeUnit.{NameTypeUnit}
+use Rattle.reader.specs.declared.common.DebugInfoOffset.{DebugInfoOffset}
+use Rattle.reader.specs.declared.common.UnitOffset.{UnitOffset}
 
 -- what is handed over of a fact
-abbrev pub compile_unit_fact : EntryUnit → Answer
-compile_unit_fact (EntryUnit.Some u) = given 1 u.0
-compile_unit_fact EntryUnit.None = nothing
+abbrev pub compile_unit_fact : Option DebugInfoOffset → Answer
+compile_unit_fact (Some u) = given 1 u.0
+compile_unit_fact None = nothing
 
-abbrev pub type_unit_fact : EntryTypeUnit → Answer
-type_unit_fact (EntryTypeUnit.Some u) = type_unit_answer u
-type_unit_fact EntryTypeUnit.None = nothing
+abbrev pub type_unit_fact : Option NameTypeUnit → Answer
+type_unit_fact (Some u) = type_unit_answer u
+type_unit_fact None = nothing
 
-abbrev pub die_offset_fact : DieOffset → Answer
-die_offset_fact (DieOffset.Some o) = given 1 o.0
-die_offset_fact DieOffset.None = nothing
+abbrev pub die_offset_fact : Option UnitOffset → Answer
+die_offset_fact (Some o) = given 1 o.0
+die_offset_fact None = nothing
 
 abbrev pub parent_fact : EntryParent → Answer
 parent_fact EntryParent.NotKnown = nothing
 parent_fact (EntryParent.Entry o) = given 1 o.0
 parent_fact EntryParent.NoParent = given 2 0
 
-abbrev pub type_hash_fact : TypeHash → Answer
-type_hash_fact (TypeHash.Some h) = given 1 h
-type_hash_fact TypeHash.None = nothing
+abbrev pub type_hash_fact : Option ℕ → Answer
+type_hash_fact (Some h) = given 1 h
+type_hash_fact None = nothing
 
 -- the facts of the entry with a handle
 unfoldable pub facts_at : RunTimeEndian → List ℕ → NameIndex → NameEntryOffset → EntryFacts
@@ -96,8 +96,8 @@ entry_answer order s i offset = entry_answer_in (facts_at order s i offset) (nam
 
 -- a step: its entry with the facts that its handle has
 abbrev pub entry_step_in : (NameEntryOffset → EntryFacts) → ℕ → Outcome (Option NameEntry) → EntryAnswer
-entry_step_in facts next (answered (some e)) = shown_entry (facts e.offset) next e
-entry_step_in facts next (answered none) = ended_series next
+entry_step_in facts next (answered (Some e)) = shown_entry (facts e.offset) next e
+entry_step_in facts next (answered None) = ended_series next
 entry_step_in facts next (refused n v) = refused_entry next n v
 
 unfoldable pub entry_step_answer : RunTimeEndian → List ℕ → NameIndex → NameEntryIter → EntryAnswer
@@ -113,18 +113,15 @@ facts_of order s i f = record {
   type_hash = handed type_hash_fact (type_hash_of f.type_hash);
 }
 
--- an entry that was read whole, with its handle
-abbrev pub less_whole : NameEntryOffset → WholeEntry → NameEntry
-less_whole offset w = record { offset = offset; abbrev_code = w.abbrev_code; tag = w.tag }
-
+-- the entry with a handle, and a step, of an entry that was read whole
 unfoldable pub whole_answer : RunTimeEndian → List ℕ → NameIndex → NameEntryOffset → Outcome WholeEntry → EntryAnswer
-whole_answer order s i offset (answered w) = shown_entry (facts_of order s i w.facts) 0 (less_whole offset w)
+whole_answer order s i offset (answered w) = shown_entry (facts_of order s i w.facts) 0 (less_whole (record { offset = offset; entry = w }))
 whole_answer order s i offset (refused n v) = refused_entry 0 n v
 
-abbrev pub whole_step_in : (Facts → EntryFacts) → ℕ → Outcome (Option Told) → EntryAnswer
-whole_step_in facts next (answered (some t)) = shown_entry (facts t.entry.facts) next (less_whole t.offset t.entry)
-whole_step_in facts next (answered none) = ended_series next
+abbrev pub whole_step_in : (Facts → EntryFacts) → ℕ → Outcome (Option EntryAt) → EntryAnswer
+whole_step_in facts next (answered (Some t)) = shown_entry (facts t.entry.facts) next (less_whole t)
+whole_step_in facts next (answered None) = ended_series next
 whole_step_in facts next (refused n v) = refused_entry next n v
 
-unfoldable pub whole_step_answer : RunTimeEndian → List ℕ → NameIndex → Step Told NameEntryIter → EntryAnswer
+unfoldable pub whole_step_answer : RunTimeEndian → List ℕ → NameIndex → Step EntryAt NameEntryIter → EntryAnswer
 whole_step_answer order s i t = whole_step_in (facts_of order s i) t.cursor.at t.answer

@@ -1,27 +1,29 @@
 // Entries and their facts, as they are handed over to C, C++ and Rust. The five facts are answers of their own: each may be refused while the
 // entry is not (document 01, "Entries and attributes").
+//
+// Status and kind are plain numbers, since the structs cross to C.
+// (order, section, index) stay parameters: with a struct that lends the section, contracts are no plainer (docs/DECISIONS.md).
 #![tactic(auto)]
 
 ghost use Rattle.std.specs.Prelude.{◌≡◌};
 ghost use Rattle.reader.specs.Errors.{number_of, value_of};
-ghost use Rattle.attributes.specs.Answers.{entry_unit_outcome, entry_type_unit_outcome, die_offset_outcome, parent_outcome, type_hash_outcome};
-ghost use Rattle.entries.specs.Answers.{whole_outcome, whole_step_of};
 ghost use Rattle.answers.specs.Answers.{handed};
-ghost use Rattle.entry_answers.specs.Entry.{compile_unit_fact, type_unit_fact, die_offset_fact, parent_fact, type_hash_fact, no_facts, refused_facts, facts_of, refused_entry, whole_answer, whole_step_answer};
+ghost use Rattle.reader.specs.Answers.{outcome};
+ghost use Rattle.reader.specs.Steps.{step_of};
+ghost use Rattle.entries.specs.Entries.{less_whole};
+ghost use Rattle.entry_answers.specs.Entry.{compile_unit_fact, type_unit_fact, die_offset_fact, parent_fact, type_hash_fact, shown_entry, facts_of, refused_entry, whole_answer, whole_step_answer};
 
-use answers::{Answer, refused};
-use attributes::{
-    DieOffset, DieOffsetRead, EntryParent, EntryTypeUnit, EntryTypeUnitRead, EntryUnit,
-    EntryUnitRead, Facts, ParentRead, TypeHash, TypeHashRead,
-};
-use entries::{WholeEntryStep, WholeRead};
+use answers::Answer;
+use attributes::{EntryParent, Facts};
+use entries::{EntryAt, NameEntryIter, WholeEntry};
 use index::NameIndex;
 use names::NameTypeUnit;
-use reader::{Error, NameEntryOffset, RunTimeEndian};
+use reader::{DebugInfoOffset, Error, NameEntryOffset, RunTimeEndian, Step, UnitOffset};
 
 // The five facts of an entry, each with kind 0 where no attribute states it.
+// (Its five answers cross to C, where `Facts` of `attributes` holds the attributes themselves.)
 #[repr(C)]
-#[derive(Clone, Copy)]
+#[derive(Clone, Copy, Default)]
 pub struct EntryFacts {
     pub compile_unit: Answer,
     pub type_unit: Answer,
@@ -32,7 +34,7 @@ pub struct EntryFacts {
 
 // An entry: kind 0 is the end of a series; 1 is an entry, whose handle is `value`. `next` is the cursor after the step.
 #[repr(C)]
-#[derive(Clone, Copy)]
+#[derive(Clone, Copy, Default)]
 pub struct EntryAnswer {
     pub status: u32,
     pub kind: u32,
@@ -43,243 +45,157 @@ pub struct EntryAnswer {
     pub tag: u32,
 }
 
-// No fact: where there is none, and as an answer.
-fn none() -> Answer
-    ensures { result ≡ record { status = 0; kind = 0; value = 0 } }
+// The compile unit that an entry names. (As `default_unit_answer` of `answers` shows a unit; each has a definition of its own, and one call of the other
+// would be no plainer.)
+fn compile_unit_fact(r: Result<Option<DebugInfoOffset>, Error>) -> Answer
+    ensures { result ≡ handed compile_unit_fact (outcome r) }
 {
-    Answer {
-        status: 0,
-        kind: 0,
-        value: 0,
-    }
-}
-
-// The compile unit that an entry names.
-fn compile_unit_fact(r: EntryUnitRead) -> Answer
-    ensures { result ≡ handed compile_unit_fact (entry_unit_outcome r) }
-{
-    let unit = match r {
-        EntryUnitRead::Value(u) => u,
-        EntryUnitRead::Refused(e) => return refused(e),
-    };
-    match unit {
-        EntryUnit::Some(u) => Answer {
-            status: 0,
-            kind: 1,
-            value: u.0 as u64,
-        },
-        EntryUnit::None => none(),
-    }
+    Answer::handed(r, |unit| match unit {
+        Some(u) => Answer::given(1, u.0 as u64),
+        None => Answer::default(),
+    })
 }
 
 // The type unit that an entry names.
-fn type_unit_fact(r: EntryTypeUnitRead) -> Answer
-    ensures { result ≡ handed type_unit_fact (entry_type_unit_outcome r) }
+fn type_unit_fact(r: Result<Option<NameTypeUnit>, Error>) -> Answer
+    ensures { result ≡ handed type_unit_fact (outcome r) }
 {
-    let named = match r {
-        EntryTypeUnitRead::Value(u) => u,
-        EntryTypeUnitRead::Refused(e) => return refused(e),
-    };
-    let unit = match named {
-        EntryTypeUnit::Some(u) => u,
-        EntryTypeUnit::None => return none(),
-    };
-    match unit {
-        NameTypeUnit::Local(u) => Answer {
-            status: 0,
-            kind: 2,
-            value: u.0 as u64,
-        },
-        NameTypeUnit::Foreign(t) => Answer {
-            status: 0,
-            kind: 3,
-            value: t.0,
-        },
-    }
+    Answer::handed(r, |unit| match unit {
+        Some(u) => Answer::from(u),
+        None => Answer::default(),
+    })
 }
 
 // The DIE offset.
-fn die_offset_fact(r: DieOffsetRead) -> Answer
-    ensures { result ≡ handed die_offset_fact (die_offset_outcome r) }
+fn die_offset_fact(r: Result<Option<UnitOffset>, Error>) -> Answer
+    ensures { result ≡ handed die_offset_fact (outcome r) }
 {
-    let die = match r {
-        DieOffsetRead::Value(d) => d,
-        DieOffsetRead::Refused(e) => return refused(e),
-    };
-    match die {
-        DieOffset::Some(offset) => Answer {
-            status: 0,
-            kind: 1,
-            value: offset.0 as u64,
-        },
-        DieOffset::None => none(),
-    }
+    Answer::handed(r, |die| match die {
+        Some(offset) => Answer::given(1, offset.0 as u64),
+        None => Answer::default(),
+    })
 }
 
 // The parent: kind 0 not known, 1 the entry of that handle, 2 none.
-fn parent_fact(r: ParentRead) -> Answer
-    ensures { result ≡ handed parent_fact (parent_outcome r) }
+fn parent_fact(r: Result<EntryParent, Error>) -> Answer
+    ensures { result ≡ handed parent_fact (outcome r) }
 {
-    let parent = match r {
-        ParentRead::Value(p) => p,
-        ParentRead::Refused(e) => return refused(e),
-    };
-    match parent {
-        EntryParent::NotKnown => none(),
-        EntryParent::Entry(offset) => Answer {
-            status: 0,
-            kind: 1,
-            value: offset.0 as u64,
-        },
-        EntryParent::NoParent => Answer {
-            status: 0,
-            kind: 2,
-            value: 0,
-        },
-    }
+    Answer::handed(r, |parent| match parent {
+        EntryParent::NotKnown => Answer::default(),
+        EntryParent::Entry(offset) => Answer::given(1, offset.0 as u64),
+        EntryParent::NoParent => Answer::given(2, 0),
+    })
 }
 
 // The hash of the type.
-fn type_hash_fact(r: TypeHashRead) -> Answer
-    ensures { result ≡ handed type_hash_fact (type_hash_outcome r) }
+fn type_hash_fact(r: Result<Option<u64>, Error>) -> Answer
+    ensures { result ≡ handed type_hash_fact (outcome r) }
 {
-    let hash = match r {
-        TypeHashRead::Value(h) => h,
-        TypeHashRead::Refused(e) => return refused(e),
-    };
-    match hash {
-        TypeHash::Some(h) => Answer {
-            status: 0,
-            kind: 1,
-            value: h,
-        },
-        TypeHash::None => none(),
-    }
+    Answer::handed(r, |hash| match hash {
+        Some(h) => Answer::given(1, h),
+        None => Answer::default(),
+    })
 }
 
 // What the attributes that were kept of an entry say.
+// (They depend on the section and the index, so no `From`; so does what is shown of an entry, below.)
+#[tactic(auto, unfolding(crate::specs::Entry::facts_of))]
+#[inline(always)]
 fn facts_of(order: RunTimeEndian, section: &[u8], index: NameIndex, facts: Facts) -> EntryFacts
     ensures { result ≡ facts_of order section.now index facts }
 {
-    let compile_unit = facts.compile_unit;
-    let type_unit = facts.type_unit;
-    let die_offset = facts.die_offset;
-    let parent = facts.parent;
-    let type_hash = facts.type_hash;
+    let compile_unit = attributes::compile_unit(order, section, index, facts.compile_unit);
+    let type_unit = attributes::type_unit(order, section, index, facts.type_unit);
     EntryFacts {
-        compile_unit: compile_unit_fact(attributes::compile_unit(
-            order,
-            section,
-            index,
-            compile_unit,
-        )),
-        type_unit: type_unit_fact(attributes::type_unit(order, section, index, type_unit)),
-        die_offset: die_offset_fact(attributes::die_offset(die_offset)),
-        parent: parent_fact(attributes::parent(parent)),
-        type_hash: type_hash_fact(attributes::type_hash(type_hash)),
+        compile_unit: compile_unit_fact(compile_unit),
+        type_unit: type_unit_fact(type_unit),
+        die_offset: die_offset_fact(attributes::die_offset(facts.die_offset)),
+        parent: parent_fact(attributes::parent(facts.parent)),
+        type_hash: type_hash_fact(attributes::type_hash(facts.type_hash)),
     }
 }
 
-// The facts of no entry, and those of a refused one.
-fn no_facts() -> EntryFacts
-    ensures { result ≡ no_facts }
-{
-    let a = none();
-    EntryFacts {
-        compile_unit: a,
-        type_unit: a,
-        die_offset: a,
-        parent: a,
-        type_hash: a,
-    }
-}
-
-fn refused_facts(e: Error) -> EntryFacts
-    ensures { result ≡ refused_facts (number_of e) (value_of e) }
-{
-    let a = refused(e);
-    EntryFacts {
-        compile_unit: a,
-        type_unit: a,
-        die_offset: a,
-        parent: a,
-        type_hash: a,
-    }
-}
-
-// A refused entry, with the cursor after it.
+// A refused entry, with the cursor after it: its facts are refused as it is.
+#[tactic(auto, unfolding(crate::specs::Entry::refused_entry, crate::specs::Entry::refused_facts))]
 fn refused_entry(e: Error, next: usize) -> EntryAnswer
     ensures { result ≡ refused_entry next (number_of e) (value_of e) }
 {
+    let fact = Answer::from(e);
     EntryAnswer {
         status: e.number() as u32,
         kind: 0,
         value: e.value(),
-        next: next,
+        next,
         abbrev_code: 0,
-        facts: refused_facts(e),
+        facts: EntryFacts {
+            compile_unit: fact,
+            type_unit: fact,
+            die_offset: fact,
+            parent: fact,
+            type_hash: fact,
+        },
         tag: 0,
     }
 }
 
+// An entry that was read whole, with its facts and the cursor after it.
+#[inline(always)]
+fn shown_entry(
+    order: RunTimeEndian,
+    section: &[u8],
+    index: NameIndex,
+    e: EntryAt,
+    next: usize,
+) -> EntryAnswer
+    ensures { result ≡ shown_entry (facts_of order section.now index e.entry.facts) next (less_whole e) }
+{
+    EntryAnswer {
+        status: 0,
+        kind: 1,
+        value: e.offset.0 as u64,
+        next,
+        abbrev_code: e.entry.abbrev_code,
+        facts: facts_of(order, section, index, e.entry.facts),
+        tag: e.entry.tag as u32,
+    }
+}
+
 // The entry with a handle, which was read whole.
+#[tactic(auto, unfolding(crate::specs::Entry::whole_answer))]
+#[inline(always)]
 pub fn entry_answer(
     order: RunTimeEndian,
     section: &[u8],
     index: NameIndex,
     offset: NameEntryOffset,
-    r: WholeRead,
+    r: Result<WholeEntry, Error>,
 ) -> EntryAnswer
-    ensures { result ≡ whole_answer order section.now index offset (whole_outcome r) }
+    ensures { result ≡ whole_answer order section.now index offset (outcome r) }
 {
     match r {
-        WholeRead::Value(w) => {
-            let facts = w.facts;
-            EntryAnswer {
-                status: 0,
-                kind: 1,
-                value: offset.0 as u64,
-                next: 0,
-                abbrev_code: w.abbrev_code,
-                facts: facts_of(order, section, index, facts),
-                tag: w.tag as u32,
-            }
-        }
-        WholeRead::Refused(e) => refused_entry(e, 0),
+        Ok(entry) => shown_entry(order, section, index, EntryAt { offset, entry }, 0),
+        Err(e) => refused_entry(e, 0),
     }
 }
 
-// A step over entries.
+// A step over entries, with the cursor after it.
+#[tactic(auto, unfolding(crate::specs::Entry::whole_step_answer, crate::specs::Entry::no_facts))]
+#[inline(always)]
 pub fn entry_step_answer(
     order: RunTimeEndian,
     section: &[u8],
     index: NameIndex,
-    r: WholeEntryStep,
+    step: Step<EntryAt, NameEntryIter>,
 ) -> EntryAnswer
-    ensures { result ≡ whole_step_answer order section.now index (whole_step_of r) }
+    ensures { result ≡ whole_step_answer order section.now index (step_of step.answer step.cursor) }
 {
-    match r {
-        WholeEntryStep::Entry(offset, w, after) => {
-            let facts = w.facts;
-            EntryAnswer {
-                status: 0,
-                kind: 1,
-                value: offset.0 as u64,
-                next: after.at,
-                abbrev_code: w.abbrev_code,
-                facts: facts_of(order, section, index, facts),
-                tag: w.tag as u32,
-            }
-        }
-        WholeEntryStep::End(after) => EntryAnswer {
-            status: 0,
-            kind: 0,
-            value: 0,
-            next: after.at,
-            abbrev_code: 0,
-            facts: no_facts(),
-            tag: 0,
+    let next = step.cursor.at;
+    match step.answer {
+        Ok(Some(e)) => shown_entry(order, section, index, e, next),
+        Ok(None) => EntryAnswer {
+            next,
+            ..EntryAnswer::default()
         },
-        WholeEntryStep::Refused(e, after) => refused_entry(e, after.at),
+        Err(e) => refused_entry(e, next),
     }
 }

@@ -7,7 +7,8 @@ use native.Mathlib.Omega.{arith}
 use lib.Dec.{eqb}
 use Rattle.reader.specs.Outcome.{Outcome, answered, refused, ◌>>=◌}
 use Rattle.reader.specs.Parts.{part_end, Forward}
-use Rattle.reader.specs.Numbers.{Read, read_byte, read_number}
+use Rattle.reader.specs.Numbers.{read_byte, read_number}
+use Rattle.reader.specs.declared.reader.Read.{Read}
 use Rattle.leb128.specs.Leb128.{leb128, unsigned_limit}
 use Rattle.reader.specs.declared.endianity.RunTimeEndian.{RunTimeEndian}
 use Rattle.reader.specs.declared.endianity.RunTimeEndian.TheVariants.{Little}
@@ -15,19 +16,19 @@ use Rattle.reader.proofs.OutcomeLaws.{refused-answered, same_answer, bind_answer
 use Rattle.reader.proofs.NumberLaws.{read_forward}
 use Rattle.leb128.proofs.Leb128Laws.{leb128-forward}
 use Rattle.forms.specs.declared.NameAttributeValue.{NameAttributeValue}
-use Rattle.forms.specs.Forms.{Valued, as_flag, as_unsigned, as_offset, form_value}
+use Rattle.forms.specs.Forms.{as_flag, as_unsigned, as_offset, form_value}
 use Rattle.forms.specs.Sanity.{ValuesOnward}
 
 module _ (s : List ℕ) (at end : ℕ) (inside : at ≤ part_end s end) where
   -- a value that goes on inside the part, if it is answered
-  abbrev Onward : Outcome Valued → Type 0
-  Onward o = (v : Valued) → o ≡ answered v → (at ≤ v.next) × (v.next ≤ part_end s end)
+  abbrev Onward : Outcome (Read NameAttributeValue) → Type 0
+  Onward o = (v : (Read NameAttributeValue)) → o ≡ answered v → (at ≤ v.next) × (v.next ≤ part_end s end)
 
-  abbrev Moves : Outcome Read → Type 0
-  Moves o = (r : Read) → o ≡ answered r → Forward s at end r.next
+  abbrev Moves : Outcome (Read ℕ) → Type 0
+  Moves o = (r : Read ℕ) → o ≡ answered r → Forward s at end r.next
 
   -- a number that was read, as a value of any kind
-  as_value : (kind : ℕ → NameAttributeValue) (o : Outcome Read) → Moves o → Onward (o >>= λ n. answered (record { value = kind n.value; next = n.next }))
+  as_value : (kind : ℕ → NameAttributeValue) (o : Outcome (Read ℕ)) → Moves o → Onward (o >>= λ n. answered (record { value = kind n.value; next = n.next }))
   as_value kind o moves v e =
       let (r, read, same) = bind_answered o _ v e in
       let (ahead, within) = moves r read in
@@ -44,7 +45,7 @@ module _ (s : List ℕ) (at end : ℕ) (inside : at ≤ part_end s end) where
   no_value n v w e = absurd (refused-answered e)
 
   -- the value of this form or of another
-  or : (form code : ℕ) (x y : Outcome Valued) → Onward x → Onward y → Onward (cond (eqb form code) x y)
+  or : (form code : ℕ) (x y : Outcome (Read NameAttributeValue)) → Onward x → Onward y → Onward (cond (eqb form code) x y)
   or form code x y this other = chosen (eqb form code)
     where
       chosen : (t : Bool) → Onward (cond t x y)

@@ -2,35 +2,31 @@
 -- section, and the value is read at the place `at` of its part up to `end`.
 use Rattle.std.specs.Prelude.{ℕ, true, cond, not, List, eqb}
 use Rattle.reader.specs.Outcome.{Outcome, answered, refused, ◌>>=◌}
-use Rattle.reader.specs.Numbers.{Read, read_byte, read_number}
+use Rattle.reader.specs.Numbers.{read_byte, read_number}
+use Rattle.reader.specs.declared.reader.Read.{Read}
 use Rattle.leb128.specs.Leb128.{leb128, unsigned_limit}
 use Rattle.reader.specs.declared.endianity.RunTimeEndian.{RunTimeEndian}
 use Rattle.forms.specs.declared.NameAttributeValue.{NameAttributeValue}
 
--- a value, and the place past it
-pub record Valued : Type 0 where
-  pub value : NameAttributeValue
-  pub next : ℕ
-
 -- a number that was read, as a flag (true unless it is 0), as an unsigned number, or as an offset
-unfoldable pub as_flag : Outcome Read → Outcome Valued
+unfoldable pub as_flag : Outcome (Read ℕ) → Outcome (Read NameAttributeValue)
 as_flag read = do
   n ← read
   answered (record { value = NameAttributeValue.Flag (not (eqb n.value 0)); next = n.next })
 
-unfoldable pub as_unsigned : Outcome Read → Outcome Valued
+unfoldable pub as_unsigned : Outcome (Read ℕ) → Outcome (Read NameAttributeValue)
 as_unsigned read = do
   n ← read
   answered (record { value = NameAttributeValue.Unsigned n.value; next = n.next })
 
-unfoldable pub as_offset : Outcome Read → Outcome Valued
+unfoldable pub as_offset : Outcome (Read ℕ) → Outcome (Read NameAttributeValue)
 as_offset read = do
   n ← read
   answered (record { value = NameAttributeValue.Offset n.value; next = n.next })
 
 -- the form's code selects the reading: flag, flag_present; data1, data2, data4, data8, udata; ref1, ref2, ref4, ref8, ref_udata;
 -- any other is 9
-unfoldable pub form_value : ℕ → RunTimeEndian → List ℕ → ℕ → ℕ → Outcome Valued
+unfoldable pub form_value : ℕ → RunTimeEndian → List ℕ → ℕ → ℕ → Outcome (Read NameAttributeValue)
 form_value form order s at end =
     cond (eqb form 0x0c) (as_flag (read_byte s at end))
     (cond (eqb form 0x19) (answered (record { value = NameAttributeValue.Flag true; next = at }))

@@ -4,10 +4,12 @@ use Rattle.std.specs.Prelude.{ℕ, ◌≤◌, ◌≡◌, List}
 use Rattle.reader.specs.Outcome.{answered}
 use Rattle.reader.specs.Parts.{part_end}
 use Rattle.reader.specs.declared.endianity.RunTimeEndian.{RunTimeEndian}
-use Rattle.forms.specs.Forms.{Valued, form_value}
+use Rattle.forms.specs.Forms.{form_value}
+use Rattle.reader.specs.declared.reader.Read.{Read}
+use Rattle.forms.specs.declared.NameAttributeValue.{NameAttributeValue}
 
 -- a value that is read inside a part does not go back and stays inside; it may take no byte, as a flag_present does
 abbrev pub ValuesOnward : Type 0
 ValuesOnward =
-    (form : ℕ) (order : RunTimeEndian) (s : List ℕ) (at end : ℕ) (v : Valued) → at ≤ part_end s end → form_value form order s at end ≡ answered v
+    (form : ℕ) (order : RunTimeEndian) (s : List ℕ) (at end : ℕ) (v : (Read NameAttributeValue)) → at ≤ part_end s end → form_value form order s at end ≡ answered v
     → (at ≤ v.next) × (v.next ≤ part_end s end)

@@ -8,13 +8,13 @@
 
 use leb128::read;
 use reader::{
-    DebugStrOffset, Format, RunTimeEndian, U8Read, U16Read, read_initial_length, read_u8, read_u16,
-    read_u32, read_u64, read_word, skip, split,
+    DebugStrOffset, Format, RunTimeEndian, read_initial_length, read_number, read_u8, read_word,
+    skip, split,
 };
 use std::io;
 use strings::DebugStr;
 
-// A call, and where its section stands in the input.
+// A call.
 #[derive(Clone, Copy)]
 struct Call {
     op: u8,
@@ -22,14 +22,14 @@ struct Call {
     at: usize,
     end: usize,
     arg: usize,
-    start: usize,
 }
 
-// A case, with the section's length.
+// A case, and what stands behind it.
 #[derive(Clone, Copy)]
-enum Case {
-    Of(Call, usize),
-    Missing,
+struct Case<'a> {
+    call: Call,
+    section: &'a [u8],
+    rest: &'a [u8],
 }
 
 fn main(rt: HostRuntime) -> io::Result<()> {
@@ -38,130 +38,119 @@ fn main(rt: HostRuntime) -> io::Result<()> {
     replay(&rt, &buffer[..n])
 }
 
-// Answers each case in turn.
+// Answers each case in turn. A case has bytes, so that there are no more cases than bytes.
 fn replay(rt: &impl Print, s: &[u8]) -> io::Result<()> {
-    let mut at = 0;
-    let mut number = 0;
-    while at < s.len() {
-        let next = one(rt, number, s, at)?;
-        if next <= at {
-            return Ok(());
+    let mut rest = s;
+    for number in 0..s.len() {
+        if rest.is_empty() {
+            break;
         }
-        at = next;
-        number = number + 1;
+        print!(rt; "{number}")?;
+        let Some(case) = first_case(rest) else {
+            return show::text(rt, b" is cut short\n");
+        };
+        answer(rt, case.call, case.section)?;
+        rest = case.rest;
     }
     Ok(())
 }
 
-// Answers the case at a place, and gives the place past it; where no whole case stands there, the end.
-fn one(rt: &impl Print, number: usize, s: &[u8], at: usize) -> io::Result<usize> {
-    show::decimal(rt, number as u64)?;
-    match case_at(s, at) {
-        Case::Missing => {
-            show::text(rt, b" is cut short\n")?;
-            Ok(s.len())
-        }
-        Case::Of(call, len) => {
-            let start = call.start;
-            if s.len() < start {
-                return Ok(s.len());
-            }
-            if s.len() - start < len {
-                show::text(rt, b" is cut short\n")?;
-                return Ok(s.len());
-            }
-            answer(rt, call, &s[start..start + len])?;
-            Ok(start + len)
-        }
-    }
-}
-
-// A number of two bytes, little-endian, or 0 where it is missing.
-fn two_bytes(s: &[u8], at: usize) -> usize {
-    match read_u16(RunTimeEndian::Little, s, at, s.len()) {
-        U16Read::Value(r) => r.value as usize,
-        U16Read::Refused(_) => 0,
-    }
-}
-
-// The case at a place.
-fn case_at(s: &[u8], at: usize) -> Case {
-    if s.len() < at {
-        return Case::Missing;
-    }
-    if s.len() - at < 10 {
-        return Case::Missing;
-    }
-    let order = if s[at + 1] == 0 {
-        RunTimeEndian::Little
-    } else {
-        RunTimeEndian::Big
-    };
-    Case::Of(
-        Call {
-            op: s[at],
-            order: order,
-            at: two_bytes(s, at + 2),
-            end: two_bytes(s, at + 4),
-            arg: two_bytes(s, at + 6),
-            start: at + 10,
+// The first case, if it stands there whole.
+fn first_case(s: &[u8]) -> Option<Case<'_>> {
+    let (head, bytes) = s.split_first_chunk::<10>()?;
+    let [
+        op,
+        order,
+        at,
+        at_high,
+        end,
+        end_high,
+        arg,
+        arg_high,
+        len,
+        len_high,
+    ] = *head;
+    let (section, rest) = bytes.split_at_checked(two_bytes(len, len_high))?;
+    let call = Call {
+        op,
+        order: if order == 0 {
+            RunTimeEndian::Little
+        } else {
+            RunTimeEndian::Big
         },
-        two_bytes(s, at + 8),
-    )
+        at: two_bytes(at, at_high),
+        end: two_bytes(end, end_high),
+        arg: two_bytes(arg, arg_high),
+    };
+    Some(Case {
+        call,
+        section,
+        rest,
+    })
 }
 
-// Makes the call and writes its answer.
+// A number of two bytes, the lower one first.
+fn two_bytes(low: u8, high: u8) -> usize {
+    u16::from_le_bytes([low, high]) as usize
+}
+
+// Makes the call and writes its answer. (A `match` on the number of the call, since each call takes other arguments.)
 fn answer(rt: &impl Print, call: Call, s: &[u8]) -> io::Result<()> {
-    let op = call.op;
-    let order = call.order;
+    let Call {
+        op,
+        order,
+        at,
+        end,
+        arg,
+    } = call;
     match op {
         1 => {
             show::text(rt, b" u8")?;
-            show::u8_read(rt, read_u8(s, call.at, call.end))
+            show::number_read(rt, read_u8(s, at, end))
         }
         2 => {
             show::text(rt, b" u16")?;
-            show::u16_read(rt, read_u16(order, s, call.at, call.end))
+            show::number_read(rt, read_number::<u16>(order, s, at, end))
         }
         3 => {
             show::text(rt, b" u32")?;
-            show::u32_read(rt, read_u32(order, s, call.at, call.end))
+            show::number_read(rt, read_number::<u32>(order, s, at, end))
         }
         4 => {
             show::text(rt, b" u64")?;
-            show::u64_read(rt, read_u64(order, s, call.at, call.end))
+            show::number_read(rt, read_number::<u64>(order, s, at, end))
         }
         5 => {
             show::text(rt, b" word32")?;
-            show::word_read(rt, read_word(Format::Dwarf32, order, s, call.at, call.end))
+            show::word_read(rt, read_word(Format::Dwarf32, order, s, at, end))
         }
         6 => {
             show::text(rt, b" word64")?;
-            show::word_read(rt, read_word(Format::Dwarf64, order, s, call.at, call.end))
+            show::word_read(rt, read_word(Format::Dwarf64, order, s, at, end))
         }
         7 => {
             show::text(rt, b" length")?;
-            show::length_read(rt, read_initial_length(order, s, call.at, call.end))
+            show::length_read(rt, read_initial_length(order, s, at, end))
         }
         8 => {
             show::text(rt, b" uleb128")?;
-            show::u64_read(rt, read::unsigned(s, call.at, call.end))
+            show::number_read(rt, read::unsigned(s, at, end))
         }
         9 => {
             show::text(rt, b" uleb128_u16")?;
-            show::u16_read(rt, read::u16(s, call.at, call.end))
+            show::number_read(rt, read::u16(s, at, end))
         }
         10 => {
             show::text(rt, b" skip")?;
-            show::skipped(rt, skip(call.arg, s, call.at, call.end))
+            show::skipped(rt, skip(arg, s, at, end))
         }
         11 => {
             show::text(rt, b" split")?;
-            show::part_read(rt, split(call.arg, s, call.at, call.end))
+            show::part_read(rt, split(arg, s, at, end))
         }
         12 => {
             show::text(rt, b" str")?;
-            show::str_read(rt, DebugStr::get_str(s, DebugStrOffset(call.arg)))
+            show::str_read(rt, DebugStr::get_str(s, DebugStrOffset(arg)))
         }
         _ => show::text(rt, b" is no call\n"),
     }

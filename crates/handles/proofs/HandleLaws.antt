@@ -7,9 +7,10 @@ use Rattle.reader.specs.Errors.{longest}
 use Rattle.reader.specs.declared.common.Format.{Format}
 use Rattle.index.specs.Layout.{fitted, parts, place, places_from, sizes, word_bytes, hash_bytes}
 use Rattle.index.specs.Open.{index_of, name_index}
-use Rattle.hashes.specs.declared.bucket.BucketIter.{BucketIter}
 use Rattle.handles.specs.Handles.{with_format, misfit, index_from, handle_of, header_for, iter_from, cursor_from}
 use Rattle.handles.specs.Sanity.{OtherFormatsMisfit, HandlesDescribe, OpensTheSame, CursorsComeBack}
+use Rattle.std.specs.Prelude.{Option, Some, None}
+use Rattle.hashes.specs.declared.bucket.NameBucketIter.{NameBucketIter}
 
 pub other_formats_misfit : OtherFormatsMisfit
 unfolding fitted index_from misfit parts place places_from sizes word_bytes hash_bytes
@@ -31,6 +32,6 @@ pub cursors_come_back : CursorsComeBack
 unfolding iter_from cursor_from
 cursors_come_back c = by_held c.bucket_iter refl
   where
-    by_held : (b : BucketIter) → c.bucket_iter ≡ b → iter_from (cursor_from c) ≡ c
-    by_held BucketIter.None e = rw e refl
-    by_held (BucketIter.Some b) e = rw e refl
+    by_held : (b : Option NameBucketIter) → c.bucket_iter ≡ b → iter_from (cursor_from c) ≡ c
+    by_held None e = rw e refl
+    by_held (Some b) e = rw e refl

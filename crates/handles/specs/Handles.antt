@@ -1,16 +1,15 @@
 -- What a caller's numbers stand for, a byte order, an index or a hash cursor, and the numbers in which an index and a hash cursor are handed over.
-use Rattle.std.specs.Prelude.{ℕ, cond, eqb}
+use Rattle.std.specs.Prelude.{ℕ, cond, eqb, Option, Some, None}
 use Rattle.reader.specs.Numbers.{word_size}
 use Rattle.reader.specs.declared.endianity.RunTimeEndian.{RunTimeEndian}
 use Rattle.reader.specs.declared.common.Format.{Format}
-use Rattle.headers.specs.declared.header.Augmentation.{Augmentation}
 use Rattle.headers.specs.declared.header.NameIndexHeader.{NameIndexHeader}
 use Rattle.index.specs.declared.layout.NameIndex.{NameIndex}
-use Rattle.hashes.specs.declared.bucket.BucketIter.{BucketIter}
 use Rattle.hashes.specs.declared.hash.NameHashIter.{NameHashIter}
 use Rattle.hashes.specs.Lookups.{hash_cursor}
 use Rattle.handles.specs.declared.IndexHandle.{IndexHandle}
 use Rattle.handles.specs.declared.HashCursor.{HashCursor}
+use Rattle.hashes.specs.declared.bucket.NameBucketIter.{NameBucketIter}
 
 -- 0 is little, any other number is big
 unfoldable pub order_of : ℕ → RunTimeEndian
@@ -75,17 +74,17 @@ header_for i = record {
   bucket_count = i.bucket_count;
   name_count = i.name_count;
   abbrev_table_size = i.abbrev_table_size;
-  augmentation_string = Augmentation.None;
+  augmentation_string = None;
   content = record { at = i.begin; end = i.end };
 }
 
 -- the hash cursor of a caller's numbers, and back
 unfoldable pub iter_from : HashCursor → NameHashIter
-iter_from c = cond (eqb c.has_bucket 0) (record { bucket_iter = BucketIter.None; hash = c.hash }) (hash_cursor c.bucket c.hash c.name)
+iter_from c = cond (eqb c.has_bucket 0) (record { bucket_iter = None; hash = c.hash }) (hash_cursor c.bucket c.hash c.name)
 
-abbrev cursor_in : ℕ → BucketIter → HashCursor
-cursor_in hash BucketIter.None = record { hash = hash; has_bucket = 0; bucket = 0; name = 0 }
-cursor_in hash (BucketIter.Some b) = record { hash = hash; has_bucket = 1; bucket = b.bucket_index; name = b.name_table_index.0 }
+abbrev cursor_in : ℕ → Option NameBucketIter → HashCursor
+cursor_in hash None = record { hash = hash; has_bucket = 0; bucket = 0; name = 0 }
+cursor_in hash (Some b) = record { hash = hash; has_bucket = 1; bucket = b.bucket_index; name = b.name_table_index.0 }
 
 unfoldable pub cursor_from : NameHashIter → HashCursor
 cursor_from c = cursor_in c.hash c.bucket_iter

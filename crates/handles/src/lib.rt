@@ -6,17 +6,17 @@
 #![tactic(auto)]
 
 ghost use Rattle.std.specs.Prelude.{◌≡◌};
-ghost use Rattle.handles.specs.Handles.{order_of, with_format, misfit, index_from, handle_of, header_for, iter_from, cursor_from};
+ghost use Rattle.handles.specs.Handles.{order_of, index_from, handle_of, header_for, iter_from, cursor_from};
 
-use hashes::{BucketIter, NameBucketIter, NameHashIter};
-use headers::{Augmentation, NameIndexHeader};
+use hashes::{NameBucketIter, NameHashIter};
+use headers::NameIndexHeader;
 use index::NameIndex;
 use reader::{DebugNamesOffset, Format, NameTableIndex, Part, RunTimeEndian};
 
 // An index, as a handle: where its parts begin and its pool ends, its counts, and the bytes of its words (4 or 8). The fields are in groups of
 // 16 bytes, as callers copy them: a load that takes of two such copies waits for both.
 #[repr(C)]
-#[derive(Clone, Copy)]
+#[derive(Clone, Copy, Default)]
 pub struct IndexHandle {
     pub begin: usize,
     pub end: usize,
@@ -29,9 +29,9 @@ pub struct IndexHandle {
     pub format: u32,
 }
 
-// A hash cursor: the hash, whether it holds a bucket cursor (0 is no), the bucket, and the name to examine next.
+// A hash cursor: the hash, whether it holds a bucket cursor (0 is no), the bucket, and the name to examine next. It crosses to C, which has no `Option`.
 #[repr(C)]
-#[derive(Clone, Copy)]
+#[derive(Clone, Copy, Default)]
 pub struct HashCursor {
     pub hash: u32,
     pub has_bucket: u32,
@@ -39,7 +39,8 @@ pub struct HashCursor {
     pub name: u32,
 }
 
-// The byte order of a number: 0 is little, any other is big.
+// The byte order of a number: 0 is little, any other is big. (A `From` can't be written here, since both types are of other crates.)
+#[tactic(auto, unfolding(crate::specs::Handles::order_of))]
 pub fn order_of(order: u32) -> RunTimeEndian
     ensures { result ≡ order_of order }
 {
@@ -49,81 +50,66 @@ pub fn order_of(order: u32) -> RunTimeEndian
     RunTimeEndian::Big
 }
 
-// The index of a handle, in a format.
-fn with_format(format: Format, h: IndexHandle) -> NameIndex
-    ensures { result ≡ with_format format h }
-{
-    NameIndex {
-        format: format,
-        compile_unit_count: h.compile_unit_count,
-        local_type_unit_count: h.local_type_unit_count,
-        foreign_type_unit_count: h.foreign_type_unit_count,
-        bucket_count: h.bucket_count,
-        name_count: h.name_count,
-        abbrev_table_size: h.abbrev_table_size,
-        begin: h.begin,
-        end: h.end,
+impl From<IndexHandle> for NameIndex {
+    ghost from_gives = { λ h index. index ≡ index_from h };
+
+    // The index that a handle stands for: in a format that is none, one that ends before it begins, and so fits no section.
+    #[tactic(auto, unfolding(crate::specs::Handles::index_from, crate::specs::Handles::with_format, crate::specs::Handles::misfit))]
+    fn from(h: IndexHandle) -> NameIndex {
+        let format = match h.format {
+            4 => Format::Dwarf32,
+            8 => Format::Dwarf64,
+            _ => {
+                return NameIndex {
+                    begin: 1,
+                    ..NameIndex::default()
+                };
+            }
+        };
+        NameIndex {
+            format,
+            compile_unit_count: h.compile_unit_count,
+            local_type_unit_count: h.local_type_unit_count,
+            foreign_type_unit_count: h.foreign_type_unit_count,
+            bucket_count: h.bucket_count,
+            name_count: h.name_count,
+            abbrev_table_size: h.abbrev_table_size,
+            begin: h.begin,
+            end: h.end,
+        }
     }
 }
 
-// An index that fits no section: it ends before it begins.
-fn fits_nowhere() -> NameIndex
-    ensures { result ≡ misfit }
-{
-    NameIndex {
-        format: Format::Dwarf32,
-        compile_unit_count: 0,
-        local_type_unit_count: 0,
-        foreign_type_unit_count: 0,
-        bucket_count: 0,
-        name_count: 0,
-        abbrev_table_size: 0,
-        begin: 1,
-        end: 0,
-    }
-}
+impl From<NameIndexHeader> for IndexHandle {
+    ghost from_gives = { λ header h. h ≡ handle_of header };
 
-// The index that a handle stands for.
-pub fn index_of(h: IndexHandle) -> NameIndex
-    ensures { result ≡ index_from h }
-{
-    if h.format == 4 {
-        return with_format(Format::Dwarf32, h);
-    }
-    if h.format == 8 {
-        return with_format(Format::Dwarf64, h);
-    }
-    fits_nowhere()
-}
-
-// The handle of the index that a header describes.
-pub fn handle_of(header: NameIndexHeader) -> IndexHandle
-    ensures { result ≡ handle_of header }
-{
-    let format = header.format;
-    let content = header.content;
-    IndexHandle {
-        begin: content.at,
-        end: content.end,
-        format: format.word_size() as u32,
-        compile_unit_count: header.compile_unit_count,
-        local_type_unit_count: header.local_type_unit_count,
-        foreign_type_unit_count: header.foreign_type_unit_count,
-        bucket_count: header.bucket_count,
-        name_count: header.name_count,
-        abbrev_table_size: header.abbrev_table_size,
+    // The handle of the index that a header describes.
+    #[tactic(auto, unfolding(crate::specs::Handles::handle_of))]
+    fn from(header: NameIndexHeader) -> IndexHandle {
+        IndexHandle {
+            begin: header.content.at,
+            end: header.content.end,
+            format: header.format.word_size() as u32,
+            compile_unit_count: header.compile_unit_count,
+            local_type_unit_count: header.local_type_unit_count,
+            foreign_type_unit_count: header.foreign_type_unit_count,
+            bucket_count: header.bucket_count,
+            name_count: header.name_count,
+            abbrev_table_size: header.abbrev_table_size,
+        }
     }
 }
 
 // A header that describes an index. Opening looks at nothing else of a header.
+// (Both types are of other crates, so no `From`.)
+#[tactic(auto, unfolding(crate::specs::Handles::header_for))]
 pub fn header_for(index: NameIndex) -> NameIndexHeader
     ensures { result ≡ header_for index }
 {
-    let format = index.format;
     NameIndexHeader {
         offset: DebugNamesOffset(0),
         length: 0,
-        format: format,
+        format: index.format,
         version: 5,
         compile_unit_count: index.compile_unit_count,
         local_type_unit_count: index.local_type_unit_count,
@@ -131,7 +117,7 @@ pub fn header_for(index: NameIndex) -> NameIndexHeader
         bucket_count: index.bucket_count,
         name_count: index.name_count,
         abbrev_table_size: index.abbrev_table_size,
-        augmentation_string: Augmentation::None,
+        augmentation_string: None,
         content: Part {
             at: index.begin,
             end: index.end,
@@ -139,46 +125,45 @@ pub fn header_for(index: NameIndex) -> NameIndexHeader
     }
 }
 
-// The hash cursor that a caller's numbers stand for.
-pub fn iter_of(c: HashCursor) -> NameHashIter
-    ensures { result ≡ iter_from c }
-{
-    if c.has_bucket == 0 {
-        return NameHashIter {
-            bucket_iter: BucketIter::None,
+impl From<HashCursor> for NameHashIter {
+    ghost from_gives = { λ c iter. iter ≡ iter_from c };
+
+    // The hash cursor that a caller's numbers stand for.
+    #[tactic(auto, unfolding(crate::specs::Handles::iter_from))]
+    fn from(c: HashCursor) -> NameHashIter {
+        if c.has_bucket == 0 {
+            return NameHashIter {
+                bucket_iter: None,
+                hash: c.hash,
+            };
+        }
+        NameHashIter {
+            bucket_iter: Some(NameBucketIter {
+                name_table_index: NameTableIndex(c.name),
+                bucket_index: c.bucket,
+            }),
             hash: c.hash,
-        };
-    }
-    NameHashIter {
-        bucket_iter: BucketIter::Some(NameBucketIter {
-            name_table_index: NameTableIndex(c.name),
-            bucket_index: c.bucket,
-        }),
-        hash: c.hash,
+        }
     }
 }
 
-// The numbers of a hash cursor.
-pub fn cursor_of(c: NameHashIter) -> HashCursor
-    ensures { result ≡ cursor_from c }
-{
-    let hash = c.hash;
-    let held = c.bucket_iter;
-    match held {
-        BucketIter::None => HashCursor {
-            hash: hash,
-            has_bucket: 0,
-            bucket: 0,
-            name: 0,
-        },
-        BucketIter::Some(b) => {
-            let name = b.name_table_index;
-            HashCursor {
-                hash: hash,
+impl From<NameHashIter> for HashCursor {
+    ghost from_gives = { λ iter c. c ≡ cursor_from iter };
+
+    // The numbers of a hash cursor.
+    #[tactic(auto, unfolding(crate::specs::Handles::cursor_from, crate::specs::Handles::no_cursor))]
+    fn from(iter: NameHashIter) -> HashCursor {
+        match iter.bucket_iter {
+            Some(b) => HashCursor {
+                hash: iter.hash,
                 has_bucket: 1,
                 bucket: b.bucket_index,
-                name: name.0,
-            }
+                name: b.name_table_index.0,
+            },
+            None => HashCursor {
+                hash: iter.hash,
+                ..HashCursor::default()
+            },
         }
     }
 }

@@ -7,19 +7,18 @@ use native.Mathlib.Omega.{arith}
 use native.Mathlib.Nat.{mod-lt, mod-eq_of_lt}
 use lib.ListN.{length, take, length-take}
 use lib.Dec.{leb, eqb}
-use borrow.Author.Tests.{leb-true, leb-false, lt-leb, eqb-true, eqb-false, eq-eqb, ne_eqb}
+use borrow.Author.Tests.{leb-true, leb-false, le-leb, lt-leb, eqb-true, eqb-false, eq-eqb, ne_eqb}
 use Rattle.index.specs.declared.layout.NameIndex.{NameIndex}
 use Rattle.reader.specs.Outcome.{answered}
 use Rattle.index.specs.declared.layout.Parts.{Parts}
 use Rattle.index.specs.Layout.{parts, place, places_from, sizes, hash_bytes, Fits, fitted}
 use Rattle.index.proofs.LayoutLaws.{places_ascend, fitted-answered}
-use Rattle.hashes.specs.declared.hash.Found.{Found}
 use Rattle.reader.specs.Lists.{numbers_from, filterb, take_while, memberb}
 use Rattle.reader.proofs.ListLaws.{past-other, false_true, numbers_length, while_length, while_take, take_shorter, filter-length, nil_cons, head-same, tail_same}
 use Rattle.reader.specs.declared.endianity.RunTimeEndian.{RunTimeEndian}
 use Rattle.hashes.specs.Table.{stored_start, stored_hash, bucket_of, names_from, run_from, examined_from, from_start, run, examined, storing, names_of_hash}
 use Rattle.hashes.specs.Sanity.{ExaminedRun}
-use Rattle.hashes.specs.Lookups.{first_or, next_in_bucket, next_storing}
+use Rattle.hashes.specs.Lookups.{first_or, found_at, no_more, next_in_bucket, next_storing}
 
 -- the hashes of an index with buckets end where its strings begin
 pub hashes_end : (i : NameIndex) → 0 < i.bucket_count → (parts i).name_table_data ≡ (parts i).hash_table_data + 4 * i.name_count
@@ -112,23 +111,23 @@ module _ (i : NameIndex) where
         tested false false = refl
 
     -- the next name of the bucket, in the order of the code
-    pub next_in_step : (name : ℕ) → next_in_bucket i hash_of bucket name ≡ cond (leb i.name_count name) (Found.End name) (cond (eqb (bucket_of i (hash_of name)) bucket) (Found.Name name (name + 1)) (Found.End (name + 1)))
+    pub next_in_step : (name : ℕ) → next_in_bucket i hash_of bucket name ≡ cond (leb i.name_count name) (no_more name) (cond (eqb (bucket_of i (hash_of name)) bucket) (found_at name) (no_more (name + 1)))
     unfolding next_in_bucket first_or
     next_in_step name = rw (run_step name, examined_step name) (tested (leb i.name_count name) (inside name))
       where
         tested : (t u : Bool) → first_or (cond t [] (cond u (name ∷ run_from i hash_of bucket (name + 1)) [])) (name + length (cond t [] (name ∷ cond u (examined_from i hash_of bucket (name + 1)) [])))
-            ≡ cond t (Found.End name) (cond u (Found.Name name (name + 1)) (Found.End (name + 1)))
-        tested true u = ap (λ n. Found.End n) (omega arith)
+            ≡ cond t (no_more name) (cond u (found_at name) (no_more (name + 1)))
+        tested true u = ap (λ n. no_more n) (omega arith)
         tested false true = refl
-        tested false false = ap (λ n. Found.End n) (omega arith)
+        tested false false = ap (λ n. no_more n) (omega arith)
 
     -- the next name that stores the hash, in the order of the code
     pub next_storing_step : (hash name : ℕ) → next_storing i hash_of bucket hash name
         ≡ cond (leb i.name_count name)
-        (Found.End name)
+        (no_more name)
         (cond (eqb (bucket_of i (hash_of name)) bucket)
-        (cond (eqb (hash_of name) hash) (Found.Name name (name + 1)) (next_storing i hash_of bucket hash (name + 1)))
-        (Found.End (name + 1)))
+        (cond (eqb (hash_of name) hash) (found_at name) (next_storing i hash_of bucket hash (name + 1)))
+        (no_more (name + 1)))
     unfolding next_storing storing filterb first_or
     next_storing_step hash name = rw (run_step name, examined_step name) (tested (leb i.name_count name) (inside name) (eqb (hash_of name) hash) refl)
       where
@@ -139,11 +138,27 @@ module _ (i : NameIndex) where
         further = length (examined_from i hash_of bucket (name + 1))
 
         tested : (t u v : Bool) → eqb (hash_of name) hash ≡ v → first_or (storing hash_of hash (cond t [] (cond u (name ∷ run-after) []))) (name + length (cond t [] (name ∷ cond u (examined_from i hash_of bucket (name + 1)) [])))
-            ≡ cond t (Found.End name) (cond u (cond v (Found.Name name (name + 1)) (first_or (storing hash_of hash run-after) ((name + 1) + further))) (Found.End (name + 1)))
-        tested true u v e = ap (λ n. Found.End n) (omega arith)
+            ≡ cond t (no_more name) (cond u (cond v (found_at name) (first_or (storing hash_of hash run-after) ((name + 1) + further))) (no_more (name + 1)))
+        tested true u v e = ap (λ n. no_more n) (omega arith)
         tested false true true e = rw e
         tested false true false e = rw e (ap (λ n. first_or (storing hash_of hash run-after) n) (omega arith))
-        tested false false v e = ap (λ n. Found.End n) (omega arith)
+        tested false false v e = ap (λ n. no_more n) (omega arith)
+
+    -- the same by what is known of the name, for the search past the names with other hashes
+    pub search_past : (hash name : ℕ) → i.name_count ≤ name → next_storing i hash_of bucket hash name ≡ no_more name
+    search_past hash name past = rw (next_storing_step hash name, le-leb i.name_count name past)
+
+    pub search_ends : (hash name stored : ℕ) → stored ≡ hash_of name → name < i.name_count → (bucket_of i stored ≡ bucket → ⊥) → next_storing i hash_of bucket hash name ≡ no_more (name + 1)
+    search_ends hash name stored is below other = rw (next_storing_step hash name, lt-leb i.name_count name below, sym is, ne_eqb (bucket_of i stored) bucket other)
+
+    pub search_finds : (hash name stored : ℕ) → stored ≡ hash_of name → name < i.name_count → bucket_of i stored ≡ bucket → stored ≡ hash → next_storing i hash_of bucket hash name ≡ found_at name
+    search_finds hash name stored is below own same =
+        rw (next_storing_step hash name, lt-leb i.name_count name below, sym is, eq-eqb (bucket_of i stored) bucket own, eq-eqb stored hash same)
+
+    pub search_on : (hash name stored : ℕ) → stored ≡ hash_of name → name < i.name_count → bucket_of i stored ≡ bucket → (stored ≡ hash → ⊥)
+        → next_storing i hash_of bucket hash name ≡ next_storing i hash_of bucket hash (name + 1)
+    search_on hash name stored is below own other =
+        rw (next_storing_step hash name, lt-leb i.name_count name below, sym is, eq-eqb (bucket_of i stored) bucket own, ne_eqb stored hash other)
 
     -- the names of the run that store the hash, in the order of the code
     pub storing_step : (hash name : ℕ) → storing hash_of hash (run_from i hash_of bucket name)

@@ -1,54 +1,49 @@
 -- Document 01, demand 3, for bucket and hash lookups: each one theorem about lists of steps of any length. The laws `bucket-lookups` and
 -- `hash-lookups` of proofs/LookupLaws.antt prove them.
-use Rattle.std.specs.Prelude.{ℕ, ◌≡◌, List, map}
-use Rattle.std.proofs.Math.Option.{Option, some}
+use Rattle.std.specs.Prelude.{ℕ, ◌≡◌, List, map, Ok}
+use Rattle.std.specs.Prelude.{Option, Some}
 use Rattle.reader.specs.Outcome.{Outcome, answered}
-use Rattle.reader.specs.Steps.{Linked, ListsInOrder}
+use Rattle.reader.specs.Steps.{Linked, ListsInOrder, answers, Taken}
 use Rattle.reader.specs.declared.endianity.RunTimeEndian.{RunTimeEndian}
 use Rattle.reader.specs.declared.common.NameTableIndex.{NameTableIndex}
 use Rattle.index.specs.declared.layout.NameIndex.{NameIndex}
 use Rattle.index.specs.declared.layout.Parts.{Parts}
 use Rattle.index.specs.Layout.{parts}
 use Rattle.hashes.specs.declared.bucket.NameBucketIter.{NameBucketIter}
-use Rattle.hashes.specs.declared.bucket.BucketIter.{BucketIter}
 use Rattle.hashes.specs.declared.bucket.BucketName.{BucketName}
-use Rattle.hashes.specs.declared.bucket.BucketRead.{BucketRead}
-use Rattle.hashes.specs.declared.bucket.NameBucketStep.{NameBucketStep}
 use Rattle.hashes.specs.declared.hash.NameHashIter.{NameHashIter}
-use Rattle.hashes.specs.declared.hash.HashRead.{HashRead}
-use Rattle.hashes.specs.declared.hash.NameHashStep.{NameHashStep}
 use Rattle.hashes.specs.Table.{run, names_of_hash}
 use Rattle.hashes.specs.Lookups.{find_by_bucket, find_by_hash, hashed, bucket_step, hash_step}
-use Rattle.hashes.specs.Answers.{bucket_outcome, bucket_step_of, hash_outcome, hash_step_of}
+use Rattle.reader.specs.Answers.{outcome}
 
 -- what the code's steps answered
-abbrev pub bucket_answers : List NameBucketStep → List (Outcome (Option BucketName))
-bucket_answers = map λ r. (bucket_step_of r).answer
+abbrev pub bucket_answers : List (Taken BucketName NameBucketIter) → List (Outcome (Option BucketName))
+bucket_answers = answers
 
-abbrev pub hash_answers : List NameHashStep → List (Outcome (Option NameTableIndex))
-hash_answers = map λ r. (hash_step_of r).answer
+abbrev pub hash_answers : List (Taken NameTableIndex NameHashIter) → List (Outcome (Option NameTableIndex))
+hash_answers = answers
 
 -- these names as steps over a bucket answer them, each with its hash, and as steps over a hash do
 unfoldable pub bucket_names : RunTimeEndian → List ℕ → Parts → List ℕ → List (Outcome (Option BucketName))
-bucket_names order s p = map λ n. answered (some (hashed order s p n))
+bucket_names order s p = map λ n. answered (Some (hashed order s p n))
 
 unfoldable pub hash_names : List ℕ → List (Outcome (Option NameTableIndex))
-hash_names = map λ n. answered (some (record { 0 = n }))
+hash_names = map λ n. answered (Some (record { 0 = n }))
 
 -- If `find_by_bucket` gave the cursor c for a bucket, then whatever list of steps follows, each given the cursor that `find_by_bucket` or
 -- the step before it gave: their answers up to the first end are the beginning of the bucket's run, in order and without a gap; and the
 -- first end is the first step before which all of the run is answered (`ListsInOrder`).
 abbrev pub BucketLookups : Type 0
 BucketLookups =
-    (order : RunTimeEndian) (s : List ℕ) (i : NameIndex) (bucket : ℕ) (c : NameBucketIter) (steps : List NameBucketStep)
-    → bucket_outcome (BucketRead.Value (BucketIter.Some c)) ≡ find_by_bucket order s i bucket
-    → Linked bucket_step_of (bucket_step order s i) c steps
+    (order : RunTimeEndian) (s : List ℕ) (i : NameIndex) (bucket : ℕ) (c : NameBucketIter) (steps : List (Taken BucketName NameBucketIter))
+    → outcome (Ok (Some c)) ≡ find_by_bucket order s i bucket
+    → Linked (bucket_step order s i) c steps
     → ListsInOrder (bucket_answers steps) (bucket_names order s (parts i) (run order s i bucket))
 
 -- The same for `find_by_hash`, and the names of the run that store the hash.
 abbrev pub HashLookups : Type 0
 HashLookups =
-    (order : RunTimeEndian) (s : List ℕ) (i : NameIndex) (hash : ℕ) (c : NameHashIter) (steps : List NameHashStep)
-    → hash_outcome (HashRead.Value c) ≡ find_by_hash order s i hash
-    → Linked hash_step_of (hash_step order s i) c steps
+    (order : RunTimeEndian) (s : List ℕ) (i : NameIndex) (hash : ℕ) (c : NameHashIter) (steps : List (Taken NameTableIndex NameHashIter))
+    → outcome (Ok c) ≡ find_by_hash order s i hash
+    → Linked (hash_step order s i) c steps
     → ListsInOrder (hash_answers steps) (hash_names (names_of_hash order s i hash))

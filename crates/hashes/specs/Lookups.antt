@@ -1,6 +1,5 @@
 -- The lookups of a hash table, and their steps: document 01, "Buckets and hashes". `s` is the section.
-use Rattle.std.specs.Prelude.{ℕ, ◌+◌, ◌-◌, ◌*◌, cond, List, [], ◌∷◌, length, leb, eqb}
-use Rattle.std.proofs.Math.Option.{Option, some, none}
+use Rattle.std.specs.Prelude.{ℕ, ◌+◌, ◌-◌, ◌*◌, cond, List, [], ◌∷◌, length, leb, eqb, Option, Some, None, option_map}
 use Rattle.reader.specs.Outcome.{Outcome, answered, ◌>>=◌, ◌>>◌, refuse_if}
 use Rattle.reader.specs.Parts.{skipped}
 use Rattle.reader.specs.Numbers.{read_number}
@@ -11,7 +10,6 @@ use Rattle.index.specs.declared.layout.NameIndex.{NameIndex}
 use Rattle.index.specs.declared.layout.Parts.{Parts}
 use Rattle.index.specs.Layout.{fitted}
 use Rattle.hashes.specs.declared.bucket.NameBucketIter.{NameBucketIter}
-use Rattle.hashes.specs.declared.bucket.BucketIter.{BucketIter}
 use Rattle.hashes.specs.declared.bucket.BucketName.{BucketName}
 use Rattle.hashes.specs.declared.hash.NameHashIter.{NameHashIter}
 use Rattle.hashes.specs.declared.hash.Found.{Found}
@@ -22,7 +20,7 @@ abbrev pub bucket_cursor : ℕ → ℕ → NameBucketIter
 bucket_cursor bucket name = record { name_table_index = record { 0 = name }; bucket_index = bucket }
 
 abbrev pub hash_cursor : ℕ → ℕ → ℕ → NameHashIter
-hash_cursor bucket hash name = record { bucket_iter = BucketIter.Some (bucket_cursor bucket name); hash = hash }
+hash_cursor bucket hash name = record { bucket_iter = Some (bucket_cursor bucket name); hash = hash }
 
 -- a bucket's first name, in a table whose starts lie at `starts` and whose hashes lie from `hashes` up to `end`: the bucket's start is skipped to
 -- and read; 0 is none; then the hashes before the first name are skipped
@@ -31,17 +29,17 @@ first_name order s starts hashes end bucket = do
   place ← skipped (4 * bucket) s starts hashes
   start ← read_number 4 order s place hashes
   cond (eqb start.value 0)
-      (answered none)
+      (answered None)
       (do
         skipped (4 * (start.value - 1)) s hashes end
-        answered (some (start.value - 1)))
+        answered (Some (start.value - 1)))
 
 -- `find_by_bucket`: the cursor before it
-abbrev pub cursor_before : ℕ → Option ℕ → BucketIter
-cursor_before bucket none = BucketIter.None
-cursor_before bucket (some name) = BucketIter.Some (bucket_cursor bucket name)
+abbrev pub cursor_before : ℕ → Option ℕ → Option NameBucketIter
+cursor_before bucket None = None
+cursor_before bucket (Some name) = Some (bucket_cursor bucket name)
 
-unfoldable pub find_by_bucket : RunTimeEndian → List ℕ → NameIndex → ℕ → Outcome BucketIter
+unfoldable pub find_by_bucket : RunTimeEndian → List ℕ → NameIndex → ℕ → Outcome (Option NameBucketIter)
 find_by_bucket order s i bucket = do
   p ← fitted s i
   first ← first_name order s p.bucket_data p.hash_table_data p.name_table_data bucket
@@ -53,10 +51,17 @@ find_by_hash order s i hash = do
   found ← find_by_bucket order s i (bucket_of i hash)
   answered (record { bucket_iter = found; hash = hash })
 
--- the first of these names, and the number after it; without one it is the end, at the number given
+-- a search that ended at a name, the number after it next; and one that ended without a name, at the number given
+abbrev pub found_at : ℕ → Found
+found_at name = record { name = Some name; next = name + 1 }
+
+abbrev pub no_more : ℕ → Found
+no_more past = record { name = None; next = past }
+
+-- the first of these names; without one it is the end, at the number given
 unfoldable pub first_or : List ℕ → ℕ → Found
-first_or [] past = Found.End past
-first_or (name ∷ names) past = Found.Name name (name + 1)
+first_or [] past = no_more past
+first_or (name ∷ names) past = found_at name
 
 -- From a number on, the next name of the bucket, or the next of them that stores the hash. Where there is none, it is the end, past the
 -- names examined: at N or above no name is, and else the one of another bucket is the last.
@@ -72,12 +77,10 @@ hashed order s p name = record { name = record { 0 = name }; hash = stored_hash 
 
 -- what a step answers where the search ended so
 abbrev pub bucket_moved : (ℕ → BucketName) → ℕ → Found → Step BucketName NameBucketIter
-bucket_moved shown bucket (Found.Name name next) = record { answer = answered (some (shown name)); cursor = bucket_cursor bucket next }
-bucket_moved shown bucket (Found.End next) = record { answer = answered none; cursor = bucket_cursor bucket next }
+bucket_moved shown bucket f = record { answer = answered (option_map shown f.name); cursor = bucket_cursor bucket f.next }
 
 abbrev pub hash_moved : ℕ → ℕ → Found → Step NameTableIndex NameHashIter
-hash_moved bucket hash (Found.Name name next) = record { answer = answered (some (record { 0 = name })); cursor = hash_cursor bucket hash next }
-hash_moved bucket hash (Found.End next) = record { answer = answered none; cursor = hash_cursor bucket hash next }
+hash_moved bucket hash f = record { answer = answered (option_map (λ name. record { 0 = name }) f.name); cursor = hash_cursor bucket hash f.next }
 
 -- The steps. 13 and 14 of the index are tested first, then that the bucket is below B.
 unfoldable pub bucket_step : RunTimeEndian → List ℕ → NameIndex → NameBucketIter → Step BucketName NameBucketIter
@@ -87,9 +90,9 @@ bucket_step order s i c = keeping c (do
   answered (bucket_moved (hashed order s p) c.bucket_index (next_in_bucket i (stored_hash order s p) c.bucket_index c.name_table_index.0)))
 
 -- a hash's cursor that holds no bucket cursor is at its end
-abbrev hash_step_in : RunTimeEndian → List ℕ → NameIndex → Parts → NameHashIter → BucketIter → Outcome (Step NameTableIndex NameHashIter)
-hash_step_in order s i p c BucketIter.None = answered (record { answer = answered none; cursor = c })
-hash_step_in order s i p c (BucketIter.Some b) = do
+abbrev hash_step_in : RunTimeEndian → List ℕ → NameIndex → Parts → NameHashIter → Option NameBucketIter → Outcome (Step NameTableIndex NameHashIter)
+hash_step_in order s i p c None = answered (record { answer = answered None; cursor = c })
+hash_step_in order s i p c (Some b) = do
   refuse_if (leb i.bucket_count b.bucket_index) 14 0
   answered (hash_moved b.bucket_index c.hash (next_storing i (stored_hash order s p) b.bucket_index c.hash b.name_table_index.0))
 

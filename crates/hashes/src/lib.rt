@@ -7,8 +7,5 @@
 pub mod bucket; // the names of a bucket, one after another
 pub mod hash; // the names that store a hash
 
-pub use bucket::{
-    BucketIter, BucketName, BucketRead, FirstName, NameBucketIter, NameBucketStep, bucket_of,
-    find_by_bucket, first_name, nth_u32,
-};
-pub use hash::{Found, HashRead, NameHashIter, NameHashStep, find_by_hash, pass_over};
+pub use bucket::{BucketName, NameBucketIter, bucket_of, find_by_bucket, first_name, nth_u32};
+pub use hash::{Found, NameHashIter, find_by_hash, pass_over};

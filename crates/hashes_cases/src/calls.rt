@@ -1,15 +1,19 @@
 // The calls of the crates `hashes` and `tables` (document 01, "Buckets and hashes"), a line for each lookup and for the table check. A
 // lookup's line has its cursor, and for each step the answer and the cursor after it. A bucket cursor is (name/bucket), a hash cursor
 // (hash name/bucket), or (hash none) where it holds no bucket cursor.
-use crate::line::Numbers;
-use hashes::{
-    BucketIter, BucketRead, HashRead, NameBucketIter, NameBucketStep, NameHashIter, NameHashStep,
-    find_by_bucket, find_by_hash,
-};
+use hashes::{NameBucketIter, NameHashIter, find_by_bucket, find_by_hash};
 use index::NameIndex;
-use reader::{NameTableIndex, RunTimeEndian};
-use std::io;
+use reader::{Error, NameTableIndex, RunTimeEndian};
+use std::{fmt, io};
 use tables::{TableCheck, check_table};
+
+// What the calls of a case are made on: a section in its byte order, and an index.
+#[derive(Clone, Copy)]
+pub struct Case<'a> {
+    pub order: RunTimeEndian,
+    pub section: &'a [u8],
+    pub index: NameIndex,
+}
 
 // A cursor of either kind.
 #[derive(Clone, Copy)]
@@ -18,261 +22,153 @@ enum Cursor {
     Hash(NameHashIter),
 }
 
-// The cursor after a step, and whether the step said end or refused.
+impl fmt::Display for Cursor {
+    fn fmt<W: fmt::Write>(&self, f: &mut fmt::Formatter<W>) -> fmt::Result {
+        match *self {
+            Cursor::Bucket(c) => write!(f, "({}/{})", c.name_table_index.0, c.bucket_index),
+            Cursor::Hash(NameHashIter { bucket_iter, hash }) => match bucket_iter {
+                Some(c) => write!(f, "({hash} {}/{})", c.name_table_index.0, c.bucket_index),
+                None => write!(f, "({hash} none)"),
+            },
+        }
+    }
+}
+
+// A name that a step gave, and in a bucket also the hash that is stored for it. (`BucketName` always has one; a lookup by hash tells none.)
 #[derive(Clone, Copy)]
-struct After {
-    cursor: Cursor,
-    ended: bool,
+struct Named {
+    name: NameTableIndex,
+    hash: Option<u32>,
 }
 
-// The buckets from 0 on, two more than there are, the hashes that are asked for, and the check.
-pub fn lookups(
-    rt: &impl Print,
-    order: RunTimeEndian,
-    s: &[u8],
-    i: NameIndex,
-    buckets: u8,
-    asked: Numbers,
-) -> io::Result<()> {
-    for bucket in 0..buckets as u32 + 2 {
-        by_bucket(rt, order, s, i, bucket)?;
+impl Cursor {
+    // The next name.
+    fn next(&mut self, case: Case) -> Result<Option<Named>, Error> {
+        Ok(match self {
+            Cursor::Bucket(c) => {
+                let step = c.next(case.order, case.section, case.index);
+                *c = step.cursor;
+                step.answer?.map(|found| Named {
+                    name: found.name,
+                    hash: Some(found.hash),
+                })
+            }
+            Cursor::Hash(c) => {
+                let step = c.next(case.order, case.section, case.index);
+                *c = step.cursor;
+                step.answer?.map(|name| Named { name, hash: None })
+            }
+        })
     }
-    for n in 0..asked.count {
-        by_hash(rt, order, s, i, asked.get(n))?;
-    }
-    check(rt, order, s, i)
 }
 
-// Text, and a number behind it.
-fn number(rt: &impl Print, before: &[u8], n: u64) -> io::Result<()> {
-    show::text(rt, before)?;
-    show::decimal(rt, n)
-}
-
-// The names of a bucket.
-fn by_bucket(
-    rt: &impl Print,
-    order: RunTimeEndian,
-    s: &[u8],
-    i: NameIndex,
-    bucket: u32,
-) -> io::Result<()> {
-    number(rt, b"bucket ", bucket as u64)?;
-    show::text(rt, b":")?;
-    let found = match find_by_bucket(order, s, i, bucket) {
-        BucketRead::Value(found) => found,
-        BucketRead::Refused(e) => {
-            return show::refused(rt, e);
+impl Case<'_> {
+    // The buckets from 0 on, two more than there are, the hashes that are asked for, and the check.
+    pub fn lookups(self, rt: &impl Print, buckets: u32, asked: &[u32]) -> io::Result<()> {
+        for bucket in 0..buckets.saturating_add(2) {
+            self.by_bucket(rt, bucket)?;
         }
-    };
-    show::text(rt, b" ok")?;
-    match found {
-        BucketIter::Some(c) => steps(rt, order, s, i, Cursor::Bucket(c)),
-        BucketIter::None => show::text(rt, b" none\n"),
+        for hash in asked {
+            self.by_hash(rt, *hash)?;
+        }
+        self.check(rt)
     }
-}
 
-// The names that store a hash.
-fn by_hash(
-    rt: &impl Print,
-    order: RunTimeEndian,
-    s: &[u8],
-    i: NameIndex,
-    hash: u32,
-) -> io::Result<()> {
-    number(rt, b"hash ", hash as u64)?;
-    show::text(rt, b":")?;
-    match find_by_hash(order, s, i, hash) {
-        HashRead::Value(c) => {
+    // The names of a bucket.
+    fn by_bucket(self, rt: &impl Print, bucket: u32) -> io::Result<()> {
+        print!(rt; "bucket {bucket}:")?;
+        let r = find_by_bucket(self.order, self.section, self.index, bucket);
+        show::answer(rt, r, |found| match found {
+            Some(c) => {
+                show::text(rt, b" ok")?;
+                self.steps(rt, Cursor::Bucket(c))
+            }
+            None => show::text(rt, b" ok none\n"),
+        })
+    }
+
+    // The names that store a hash.
+    fn by_hash(self, rt: &impl Print, hash: u32) -> io::Result<()> {
+        print!(rt; "hash {hash}:")?;
+        let r = find_by_hash(self.order, self.section, self.index, hash);
+        show::answer(rt, r, |c| {
             show::text(rt, b" ok")?;
-            steps(rt, order, s, i, Cursor::Hash(c))
-        }
-        HashRead::Refused(e) => show::refused(rt, e),
+            self.steps(rt, Cursor::Hash(c))
+        })
     }
-}
 
-// Cursors that no lookup gave, up to eight, three numbers for each: a name number, a bucket and a hash.
-pub fn cursors(
-    rt: &impl Print,
-    order: RunTimeEndian,
-    s: &[u8],
-    i: NameIndex,
-    given: Numbers,
-) -> io::Result<()> {
-    for n in 0..8 {
-        if 3 * n + 2 < given.count {
-            let c = NameBucketIter {
-                name_table_index: NameTableIndex(given.get(3 * n)),
-                bucket_index: given.get(3 * n + 1),
-            };
-            made(rt, order, s, i, c, given.get(3 * n + 2))?;
+    // Cursors that no lookup gave, three numbers for each: a name number, a bucket and a hash.
+    pub fn cursors(self, rt: &impl Print, given: &[u32]) -> io::Result<()> {
+        let (cursors, _) = given.as_chunks::<3>();
+        for [name, bucket, hash] in cursors {
+            self.made(rt, *name, *bucket, *hash)?;
         }
+        Ok(())
     }
-    Ok(())
-}
 
-// A bucket cursor, the hash cursor that holds it, and the hash cursor that holds none.
-fn made(
-    rt: &impl Print,
-    order: RunTimeEndian,
-    s: &[u8],
-    i: NameIndex,
-    c: NameBucketIter,
-    hash: u32,
-) -> io::Result<()> {
-    let holds = NameHashIter {
-        bucket_iter: BucketIter::Some(c),
-        hash: hash,
-    };
-    let none = NameHashIter {
-        bucket_iter: BucketIter::None,
-        hash: hash,
-    };
-    show::text(rt, b"cursor:")?;
-    steps(rt, order, s, i, Cursor::Bucket(c))?;
-    show::text(rt, b"cursor:")?;
-    steps(rt, order, s, i, Cursor::Hash(holds))?;
-    show::text(rt, b"cursor:")?;
-    steps(rt, order, s, i, Cursor::Hash(none))
-}
-
-// The steps from a cursor up to the second that says end or refuses, at most three more than there are names: so the line shows whether a
-// step after an end stays there or goes on.
-fn steps(
-    rt: &impl Print,
-    order: RunTimeEndian,
-    s: &[u8],
-    i: NameIndex,
-    from: Cursor,
-) -> io::Result<()> {
-    let mut cursor = from;
-    let mut ended = false;
-    shown(rt, cursor)?;
-    for n in 0..i.name_count as usize + 3 {
-        let after = match cursor {
-            Cursor::Bucket(c) => bucket_step(rt, order, s, i, c)?,
-            Cursor::Hash(c) => hash_step(rt, order, s, i, c)?,
+    // A bucket cursor, the hash cursor that holds it, and the hash cursor that holds none.
+    fn made(self, rt: &impl Print, name: u32, bucket_index: u32, hash: u32) -> io::Result<()> {
+        let c = NameBucketIter {
+            name_table_index: NameTableIndex(name),
+            bucket_index,
         };
-        cursor = after.cursor;
-        shown(rt, cursor)?;
-        if after.ended {
-            if ended {
+        self.cursor(rt, Cursor::Bucket(c))?;
+        for bucket_iter in [Some(c), None] {
+            self.cursor(rt, Cursor::Hash(NameHashIter { bucket_iter, hash }))?;
+        }
+        Ok(())
+    }
+
+    // The steps of a cursor that no lookup gave.
+    fn cursor(self, rt: &impl Print, from: Cursor) -> io::Result<()> {
+        show::text(rt, b"cursor:")?;
+        self.steps(rt, from)
+    }
+
+    // The steps from a cursor up to the second that says end or refuses, at most three more than there are names: so the line shows whether a
+    // step after an end stays there or goes on.
+    fn steps(self, rt: &impl Print, from: Cursor) -> io::Result<()> {
+        let mut cursor = from;
+        let mut ended = false;
+        print!(rt; " {cursor}")?;
+        for _ in 0..self.index.name_count as usize + 3 {
+            let next = cursor.next(self);
+            found(rt, next)?;
+            print!(rt; " {cursor}")?;
+            let over = !matches!(next, Ok(Some(_)));
+            if over && ended {
                 break;
             }
-            ended = true;
+            ended |= over;
         }
+        show::text(rt, b"\n")
     }
-    show::text(rt, b"\n")
-}
 
-// A step of a bucket cursor: a name with its stored hash, the end, or a refusal.
-fn bucket_step(
-    rt: &impl Print,
-    order: RunTimeEndian,
-    s: &[u8],
-    i: NameIndex,
-    from: NameBucketIter,
-) -> io::Result<After> {
-    match from.next(order, s, i) {
-        NameBucketStep::End(c) => {
-            show::text(rt, b" end")?;
-            Ok(After {
-                cursor: Cursor::Bucket(c),
-                ended: true,
-            })
-        }
-        NameBucketStep::Name(found, c) => {
-            let name = found.name;
-            number(rt, b" name ", name.0 as u64)?;
-            number(rt, b" hash ", found.hash as u64)?;
-            Ok(After {
-                cursor: Cursor::Bucket(c),
-                ended: false,
-            })
-        }
-        NameBucketStep::Refused(e, c) => {
-            number(rt, b" refused ", e.number() as u64)?;
-            number(rt, b" ", e.value())?;
-            Ok(After {
-                cursor: Cursor::Bucket(c),
-                ended: true,
-            })
-        }
+    // The table check: of an incomplete table the number of missed names, the smallest of their numbers, and the hash of that name.
+    fn check(self, rt: &impl Print) -> io::Result<()> {
+        show::text(rt, b"check:")?;
+        let r = check_table(self.order, self.section, self.index);
+        show::answer(rt, r, |found| match found {
+            TableCheck::NoTable => show::text(rt, b" ok no table\n"),
+            TableCheck::Complete => show::text(rt, b" ok complete\n"),
+            TableCheck::Incomplete(i) => {
+                println!(rt; " ok missed {} name {} hash {}", i.missed, i.name.0, i.hash)
+            }
+        })
     }
 }
 
-// A step of a hash cursor: a name, the end, or a refusal.
-fn hash_step(
-    rt: &impl Print,
-    order: RunTimeEndian,
-    s: &[u8],
-    i: NameIndex,
-    from: NameHashIter,
-) -> io::Result<After> {
-    match from.next(order, s, i) {
-        NameHashStep::End(c) => {
-            show::text(rt, b" end")?;
-            Ok(After {
-                cursor: Cursor::Hash(c),
-                ended: true,
-            })
-        }
-        NameHashStep::Name(name, c) => {
-            number(rt, b" name ", name.0 as u64)?;
-            Ok(After {
-                cursor: Cursor::Hash(c),
-                ended: false,
-            })
-        }
-        NameHashStep::Refused(e, c) => {
-            number(rt, b" refused ", e.number() as u64)?;
-            number(rt, b" ", e.value())?;
-            Ok(After {
-                cursor: Cursor::Hash(c),
-                ended: true,
-            })
-        }
-    }
-}
-
-// A cursor, as it is after a lookup or a step.
-fn shown(rt: &impl Print, cursor: Cursor) -> io::Result<()> {
-    show::text(rt, b" (")?;
-    match cursor {
-        Cursor::Bucket(c) => position(rt, c)?,
-        Cursor::Hash(c) => {
-            let held = c.bucket_iter;
-            show::decimal(rt, c.hash as u64)?;
-            show::text(rt, b" ")?;
-            match held {
-                BucketIter::Some(b) => position(rt, b)?,
-                BucketIter::None => show::text(rt, b"none")?,
+// What a step gave: a name, with its hash where the step tells it, the end, or a refusal.
+fn found(rt: &impl Print, next: Result<Option<Named>, Error>) -> io::Result<()> {
+    match next {
+        Ok(Some(found)) => {
+            print!(rt; " name {}", found.name.0)?;
+            match found.hash {
+                Some(hash) => print!(rt; " hash {hash}"),
+                None => Ok(()),
             }
         }
-    }
-    show::text(rt, b")")
-}
-
-// The name to examine next, and the bucket.
-fn position(rt: &impl Print, c: NameBucketIter) -> io::Result<()> {
-    let name = c.name_table_index;
-    show::decimal(rt, name.0 as u64)?;
-    number(rt, b"/", c.bucket_index as u64)
-}
-
-// The table check: of an incomplete table the number of missed names, the smallest of their numbers, and the hash of that name.
-fn check(rt: &impl Print, order: RunTimeEndian, s: &[u8], i: NameIndex) -> io::Result<()> {
-    show::text(rt, b"check:")?;
-    match check_table(order, s, i) {
-        TableCheck::NoTable => show::text(rt, b" ok no table\n"),
-        TableCheck::Complete => show::text(rt, b" ok complete\n"),
-        TableCheck::Incomplete(found) => {
-            let name = found.name;
-            number(rt, b" ok missed ", found.missed as u64)?;
-            number(rt, b" name ", name.0 as u64)?;
-            number(rt, b" hash ", found.hash as u64)?;
-            show::text(rt, b"\n")
-        }
-        TableCheck::Refused(e) => show::refused(rt, e),
+        Ok(None) => show::text(rt, b" end"),
+        Err(e) => print!(rt; " refused {} {}", e.number(), e.value()),
     }
 }

@@ -1,73 +1,44 @@
 // The numbers in a line of text that describes a case. Semicolons part the line; part 0 is what stands before the first.
 
-// The numbers of some text in their order, at most 24: how many have ended, and whether digits of one more stand behind them.
+ghost use Rattle.std.specs.Prelude.{◌≤◌, length};
+
+// Some numbers, at most 24: an array and a count, since they are lent as one slice and the programs have no heap.
 #[derive(Clone, Copy)]
 pub struct Numbers {
-    pub values: [u64; 24],
-    pub count: u8,
-    pub within: bool,
+    values: [u32; 24],
+    count: usize,
 }
 
 impl Numbers {
-    // With one more byte of the text: a digit, or a byte that ends a number.
-    fn with(self, byte: u8) -> Numbers {
-        let at = self.count;
-        let mut next = self;
-        if 24 <= at {
-            return next;
+    // One more; there is no room for a 25th.
+    fn push(&mut self, n: u32) {
+        if let Some(place) = self.values.get_mut(self.count) {
+            *place = n;
+            self.count += 1;
         }
-        if byte < b'0' || b'9' < byte {
-            if self.within {
-                next.count = at + 1;
-                next.within = false;
-            }
-            return next;
-        }
-        let values = self.values;
-        let before = values[at as usize];
-        if 4294967296 <= before {
-            return next;
-        }
-        next.values[at as usize] = 10 * before + (byte - b'0') as u64;
-        next.within = true;
-        next
     }
 
-    // The number at a position, counted from 0; 0 where there is none.
-    pub fn get(self, position: u8) -> u32 {
-        let values = self.values;
-        if self.count <= position || 24 <= position {
-            return 0;
-        }
-        (values[position as usize] % 4294967296) as u32
+    pub fn all(&self) -> &[u32]
+        ensures { length result.now ≤ 24 }
+    {
+        self.values.get(..self.count).unwrap_or(&[])
     }
 }
 
-// The place past so many semicolons, or the line's end where it has fewer.
-fn past(line: &[u8], semicolons: usize) -> usize {
-    let mut left = semicolons;
-    for at in 0..line.len() {
-        if left == 0 {
-            return at;
-        }
-        if line[at] == b';' {
-            left = left - 1;
-        }
-    }
-    line.len()
-}
-
-// The numbers in the parts of a line from the first on, and before the last.
-pub fn numbers_of(line: &[u8], first: usize, last: usize) -> Numbers {
+// The numbers in a part of a line, in their order.
+pub fn numbers_of(line: &[u8], part: usize) -> Numbers {
     let mut read = Numbers {
         values: [0; 24],
         count: 0,
-        within: false,
     };
-    for at in past(line, first)..past(line, last) {
-        if at < line.len() {
-            read = read.with(line[at]);
-        }
+    let text = line.split(|b| *b == b';').nth(part).unwrap_or(b"");
+    for n in text.split(|b| !b.is_ascii_digit()).filter_map(number) {
+        read.push(n);
     }
-    read.with(b';')
+    read
+}
+
+// A number in decimal digits.
+fn number(digits: &[u8]) -> Option<u32> {
+    str::from_utf8(digits).ok()?.parse().ok()
 }

@@ -1,5 +1,4 @@
 // The sections of the cases and the indexes on them (document 01, "Bytes to try" and "Headers and layout").
-use crate::line::Numbers;
 use index::NameIndex;
 use reader::{Format, RunTimeEndian};
 
@@ -8,65 +7,51 @@ use reader::{Format, RunTimeEndian};
 pub const CASE_A: [u8; 109] =
     *b"\x69\x00\x00\x00\x05\x00\x00\x00\x01\x00\x00\x00\x00\x00\x00\x00\x00\x00\x00\x00\x02\x00\x00\x00\x03\x00\x00\x00\x07\x00\x00\x00\x00\x00\x00\x00\x00\x00\x00\x00\x01\x00\x00\x00\x02\x00\x00\x00\x04\x00\x00\x00\x07\x00\x00\x00\x09\x00\x00\x00\x01\x00\x00\x00\x05\x00\x00\x00\x06\x00\x00\x00\x00\x00\x00\x00\x06\x00\x00\x00\x0c\x00\x00\x00\x01\x2e\x03\x13\x00\x00\x00\x01\x10\x00\x00\x00\x00\x01\x20\x00\x00\x00\x00\x01\x30\x00\x00\x00\x00";
 
-// A number in four bytes, at a position in words of four bytes.
-fn put(order: RunTimeEndian, bytes: &mut [u8; 256], position: u8, number: u32) {
-    if 63 < position {
-        return;
+// The bytes of a section that has these starts and, behind them, these hashes; zeros follow.
+pub fn bytes_of(order: RunTimeEndian, starts: &[u32], hashes: &[u32]) -> [u8; 256] {
+    let mut bytes = [0; 256];
+    let (words, _) = bytes.as_chunks_mut::<4>();
+    for (word, n) in words.iter_mut().zip(starts.iter().chain(hashes)) {
+        *word = match order {
+            RunTimeEndian::Little => n.to_le_bytes(),
+            RunTimeEndian::Big => n.to_be_bytes(),
+        };
     }
-    let at = 4 * (position as usize);
-    let a = (number % 256) as u8;
-    let b = (number / 256 % 256) as u8;
-    let c = (number / 65536 % 256) as u8;
-    let d = (number / 16777216 % 256) as u8;
-    match order {
-        RunTimeEndian::Little => {
-            bytes[at] = a;
-            bytes[at + 1] = b;
-            bytes[at + 2] = c;
-            bytes[at + 3] = d;
-        }
-        RunTimeEndian::Big => {
-            bytes[at] = d;
-            bytes[at + 1] = c;
-            bytes[at + 2] = b;
-            bytes[at + 3] = a;
-        }
-    }
-}
-
-// The numbers from the section's start on.
-pub fn write(order: RunTimeEndian, bytes: &mut [u8; 256], numbers: Numbers) {
-    for n in 0..numbers.count {
-        put(order, bytes, n, numbers.get(n));
-    }
+    bytes
 }
 
 // The index of the numbers begin, end, C, L, F, B, N and A.
-pub fn index_of(format: Format, given: Numbers) -> NameIndex {
+pub fn index_of(format: Format, given: [u32; 8]) -> NameIndex {
+    let [
+        begin,
+        end,
+        compile_unit_count,
+        local_type_unit_count,
+        foreign_type_unit_count,
+        bucket_count,
+        name_count,
+        abbrev_table_size,
+    ] = given;
     NameIndex {
-        format: format,
-        compile_unit_count: given.get(2),
-        local_type_unit_count: given.get(3),
-        foreign_type_unit_count: given.get(4),
-        bucket_count: given.get(5),
-        name_count: given.get(6),
-        abbrev_table_size: given.get(7),
-        begin: given.get(0) as usize,
-        end: given.get(1) as usize,
+        format,
+        compile_unit_count,
+        local_type_unit_count,
+        foreign_type_unit_count,
+        bucket_count,
+        name_count,
+        abbrev_table_size,
+        begin: begin as usize,
+        end: end as usize,
     }
 }
 
 // The index of a whole section that has starts, hashes, strings and entry offsets and nothing else.
-pub fn table(format: Format, buckets: u8, names: u8, end: usize) -> NameIndex {
+pub fn table(format: Format, bucket_count: u32, name_count: u32, end: usize) -> NameIndex {
     NameIndex {
-        format: format,
-        compile_unit_count: 0,
-        local_type_unit_count: 0,
-        foreign_type_unit_count: 0,
-        bucket_count: buckets as u32,
-        name_count: names as u32,
-        abbrev_table_size: 0,
-        begin: 0,
-        end: end,
+        format,
+        bucket_count,
+        name_count,
+        end,
+        ..NameIndex::default()
     }
 }

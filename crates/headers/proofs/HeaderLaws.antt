@@ -1,10 +1,11 @@
 -- Laws of headers: padding, what an answered header says, and that steps move forward.
 use Prim.Native.Nat.{ℕ, zero, suc, ◌+◌, ◌-◌, ◌/◌, ◌%◌, ◌≤◌, ◌<◌}
-use mathlib.Core.Path.{◌≡◌, refl, sym, ap, ◌∙◌}
+use mathlib.Core.Path.{subst, ◌≡◌, refl, sym, ap, ◌∙◌}
 use mathlib.Core.Bool.{Bool, true, false, cond}
 use mathlib.Core.Logic.{◌⊎◌, inl, inr}
 use mathlib.Core.List.{List, [], ◌∷◌, map}
-use mathlib.Core.Option.{Option, some, none, none-ne-some, some-injective}
+use Rattle.std.specs.Prelude.{Option, Some, None}
+use Rattle.reader.proofs.OutcomeLaws.{none-ne-some, some-injective}
 use native.Mathlib.Omega.{arith}
 use lib.ListN.{length}
 use lib.Seq.{slice}
@@ -13,8 +14,10 @@ use borrow.Author.Tests.{le-ltb, le-leb, leb-true, leb-false, eqb-true, eqb-fals
 use Rattle.reader.specs.Outcome.{Outcome, answered, refused, ◌>>=◌, ◌>>◌, demand, refuse_if}
 use Rattle.reader.specs.Errors.{longest}
 use Rattle.reader.specs.Parts.{part_end, skipped, cut}
-use Rattle.reader.specs.Numbers.{Read, read_number, initial_length}
-use Rattle.reader.specs.Steps.{Step, keeping, no_steps, step_then, has_end}
+use Rattle.reader.specs.Numbers.{read_number, initial_length}
+use Rattle.reader.specs.declared.reader.Read.{Read}
+use Rattle.reader.specs.Steps.{Step, keeping, step_of, Taken, no_steps, step_then, answers, has_end}
+use Rattle.reader.specs.Answers.{outcome}
 use Rattle.reader.specs.Listing.{Advances}
 use Rattle.reader.proofs.ListingLaws.{listing_step}
 use Rattle.reader.specs.declared.endianity.RunTimeEndian.{RunTimeEndian}
@@ -23,12 +26,10 @@ use Rattle.reader.proofs.PartLaws.{skip_answered, cut-answered, skip_part, slice
 use Rattle.reader.proofs.NumberLaws.{read_forward, read_part, length-forward}
 use Rattle.headers.specs.declared.header.HeaderCut.{HeaderCut}
 use Rattle.headers.specs.declared.header.Counts.{Counts}
-use Rattle.headers.specs.declared.header.Augmentation.{Augmentation}
-use Rattle.headers.specs.declared.header.ReadAugmentation.{ReadAugmentation}
+use Rattle.headers.specs.declared.header.AugmentationString.{AugmentationString}
 use Rattle.headers.specs.declared.header.NameIndexHeader.{NameIndexHeader}
 use Rattle.headers.specs.declared.headers.NameIndexHeaderIter.{NameIndexHeaderIter}
 use Rattle.headers.specs.Header.{header_cut, counts, padding_for, padding, augmentation, header_body, header}
-use Rattle.headers.specs.Answers.{header_step_of}
 use Rattle.headers.specs.Headers.{after_header, header_step, header_at, headers_from}
 use Rattle.headers.specs.Sanity.{PaddingCases, PaddingSum, PaddingFills, PaddingLeast, PaddingComputed, HeadersFit, StepsForward, WalksEnd, HeadersUnfold, BodiesInPart}
 
@@ -95,24 +96,24 @@ counts-inside order s at end n =
     Inside : Type 0
     Inside = (at ≤ n.next) × (n.next ≤ part_end s end)
 
-    field : {f : Read → Outcome Counts} (from : ℕ) → at ≤ from → ((r : Read) → at ≤ r.next → r.next ≤ part_end s end → f r ≡ answered n → Inside)
+    field : {f : Read ℕ → Outcome Counts} (from : ℕ) → at ≤ from → ((r : Read ℕ) → at ≤ r.next → r.next ≤ part_end s end → f r ≡ answered n → Inside)
         → (read_number 4 order s from end >>= f) ≡ answered n → Inside
     field {f = f} from past more = answered_then (read_number 4 order s from end) f n Inside λ r read.
         let (ahead, inside) = read_forward 4 order s from end r (omega arith) read in
         more r (omega arith) inside
 
 -- so does the augmentation with its padding
-augmentation-inside : (size : ℕ) (s : List ℕ) (at end : ℕ) (a : ReadAugmentation) → at ≤ part_end s end → augmentation size s at end ≡ answered a → (at ≤ a.next) × (a.next ≤ part_end s end)
+augmentation-inside : (size : ℕ) (s : List ℕ) (at end : ℕ) (a : Read (Option AugmentationString)) → at ≤ part_end s end → augmentation size s at end ≡ answered a → (at ≤ a.next) × (a.next ≤ part_end s end)
 unfolding augmentation
 augmentation-inside size s at end a h e = chosen (cond_is (eqb size 0) _ _ (answered a) e)
   where
-    rest : Outcome ReadAugmentation
+    rest : Outcome (Read (Option AugmentationString))
     rest = do
       string ← cut size s at end
       next ← skipped (padding size) s string.end end
-      answered (record { augmentation = Augmentation.Some (record { place = string.at; len = size }); next = next })
+      answered (record { value = Some (record { place = string.at; len = size }); next = next })
 
-    chosen : ((eqb size 0 ≡ true) × (answered (record { augmentation = Augmentation.None; next = at }) ≡ answered a)) ⊎ ((eqb size 0 ≡ false) × (rest ≡ answered a))
+    chosen : ((eqb size 0 ≡ true) × (answered (record { value = None; next = at }) ≡ answered a)) ⊎ ((eqb size 0 ≡ false) × (rest ≡ answered a))
         → (at ≤ a.next) × (a.next ≤ part_end s end)
     chosen (inl (zero-size, same)) =
         let past : a.next ≡ at = ap (λ a. a.next) (sym (same_answer same)) in
@@ -166,7 +167,7 @@ header-begins order s at h e =
 
 -- the step, by the outcomes of its tests and of reading the header
 abbrev step_by : Bool → Bool → Bool → Outcome NameIndexHeader → List ℕ → NameIndexHeaderIter → Step NameIndexHeader NameIndexHeaderIter
-step_by t u v o s c = keeping c (refuse_if t 13 0 >> (refuse_if u 14 0 >> answered (cond v (record { answer = answered none; cursor = c }) (after_header s o))))
+step_by t u v o s c = keeping c (refuse_if t 13 0 >> (refuse_if u 14 0 >> answered (cond v (record { answer = answered None; cursor = c }) (after_header s o))))
 
 step_by_lem : (order : RunTimeEndian) (s : List ℕ) (c : NameIndexHeaderIter)
     → header_step order s c ≡ step_by (ltb longest (length s)) (ltb (length s) c.at) (eqb c.at (length s)) (header order s c.at) s c
@@ -175,7 +176,7 @@ step_by_lem order s c = refl
 
 -- a step that gives a header read it, and its cursor is where the header's index ends
 gave_header : (t u v : Bool) (o : Outcome NameIndexHeader) (s : List ℕ) (c : NameIndexHeaderIter) (h : NameIndexHeader)
-    → (step_by t u v o s c).answer ≡ answered (some h) → (o ≡ answered h) × ((step_by t u v o s c).cursor.at ≡ h.content.end)
+    → (step_by t u v o s c).answer ≡ answered (Some h) → (o ≡ answered h) × ((step_by t u v o s c).cursor.at ≡ h.content.end)
 unfolding after_header
 gave_header true u v o s c h e = absurd (refused-answered e)
 gave_header false true v o s c h e = absurd (refused-answered e)
@@ -195,7 +196,7 @@ steps_forward order s c h =
 -- a step is the end, or it is not and moves forward inside the section
 abbrev Moves : List ℕ → NameIndexHeaderIter → Step NameIndexHeader NameIndexHeaderIter → Type 0
 Moves s c t =
-    (t.answer ≡ answered none)
+    (t.answer ≡ answered None)
     ⊎ (((os : List (Outcome (Option NameIndexHeader))) → has_end (t.answer ∷ os) ≡ has_end os) × (c.at < t.cursor.at) × (t.cursor.at ≤ length s))
 
 moves_by : (v : Bool) (o : Outcome NameIndexHeader) (order : RunTimeEndian) (s : List ℕ) (c : NameIndexHeaderIter)
@@ -216,17 +217,17 @@ step_moves order s c short fits =
     (moves_by (eqb c.at (length s)) (header order s c.at) order s c fits refl refl)
 
 -- the header at a place was read there
-header-there : (order : RunTimeEndian) (s : List ℕ) (at : ℕ) (h : NameIndexHeader) → header_at order s at ≡ answered (some h) → header order s at ≡ answered h
+header-there : (order : RunTimeEndian) (s : List ℕ) (at : ℕ) (h : NameIndexHeader) → header_at order s at ≡ answered (Some h) → header order s at ≡ answered h
 unfolding header_at
 header-there order s at h = other (leb (length s) at)
   where
-    other : (t : Bool) → cond t (answered none) (header order s at >>= λ h. answered (some h)) ≡ answered (some h) → header order s at ≡ answered h
+    other : (t : Bool) → cond t (answered None) (header order s at >>= λ h. answered (Some h)) ≡ answered (Some h) → header order s at ≡ answered h
     other true e = absurd (none-ne-some _ (same_answer e))
     other false e =
-        let (g, read, same) = bind_answered (header order s at) _ (some h) e in
+        let (g, read, same) = bind_answered (header order s at) _ (Some h) e in
         read ∙ ap (λ h. answered h) (some-injective _ _ (same_answer same))
 
-no_header : (order : RunTimeEndian) (s : List ℕ) (at : ℕ) → length s ≤ at → header_at order s at ≡ answered none
+no_header : (order : RunTimeEndian) (s : List ℕ) (at : ℕ) → length s ≤ at → header_at order s at ≡ answered None
 unfolding header_at
 no_header order s at h = rw (le-leb (length s) at h)
 
@@ -245,12 +246,12 @@ headers_step order s at = listing_step (header_at order s) (λ h. h.content.end)
 
 -- the step of a cursor that fits, by the header at its place
 pub header_step_at : (order : RunTimeEndian) (s : List ℕ) (c : NameIndexHeaderIter) → length s ≤ longest → c.at ≤ length s
-    → header_step order s c ≡ cond (leb (length s) c.at) (record { answer = answered none; cursor = c }) (after_header s (header order s c.at))
+    → header_step order s c ≡ cond (leb (length s) c.at) (record { answer = answered None; cursor = c }) (after_header s (header order s c.at))
 unfolding header_step
 header_step_at order s c short fits = rw (le-ltb longest (length s) short, le-ltb (length s) c.at fits) (tested (eqb c.at (length s)) (leb (length s) c.at) refl refl)
   where
     tested : (t u : Bool) → eqb c.at (length s) ≡ t → leb (length s) c.at ≡ u
-        → cond t (record { answer = answered none; cursor = c }) (after_header s (header order s c.at)) ≡ cond u (record { answer = answered none; cursor = c }) (after_header s (header order s c.at))
+        → cond t (record { answer = answered None; cursor = c }) (after_header s (header order s c.at)) ≡ cond u (record { answer = answered None; cursor = c }) (after_header s (header order s c.at))
     tested true true e f = refl
     tested true false e f = absurd (omega (arith, eqb-true c.at (length s) e, leb-false (length s) c.at f))
     tested false true e f = let above = leb-true (length s) c.at f in absurd (eqb-false c.at (length s) e (omega arith))
@@ -260,17 +261,12 @@ header_step_at order s c short fits = rw (le-ltb longest (length s) short, le-lt
 pub walks_end : WalksEnd
 unfolding has_end
 walks_end order s c [] short fits no_steps many = absurd (omega arith)
-walks_end order s c (r ∷ rs) short fits (step_then is linked) many =
-    first (rw is (step_moves order s c short fits)) (λ inside further. walks_end order s (header_step_of r).cursor rs short inside linked further)
+walks_end order s c (t ∷ ts) short fits (step_then is linked) many =
+    first (subst (λ step. Moves s c step) (sym is) (step_moves order s c short fits)) (λ inside further. walks_end order s t.cursor ts short inside linked further)
   where
-    answers : List (Outcome (Option NameIndexHeader))
-    answers = map (λ r. (header_step_of r).answer) rs
-
-    first : Moves s c (header_step_of r)
-        → ((header_step_of r).cursor.at ≤ length s → length s - (header_step_of r).cursor.at < length rs → has_end answers ≡ true)
-        → has_end ((header_step_of r).answer ∷ answers) ≡ true
+    first : Moves s c (step_of t.answer t.cursor) → (t.cursor.at ≤ length s → length s - t.cursor.at < length ts → has_end (answers ts) ≡ true) → has_end (outcome t.answer ∷ answers ts) ≡ true
     first (inl ended) rest = rw ended refl
-    first (inr (passes, ahead, inside)) rest = passes answers ∙ rest inside (omega arith)
+    first (inr (passes, ahead, inside)) rest = passes (answers ts) ∙ rest inside (omega arith)
 
 -- a header looks at no byte outside its part: its counts, its augmentation and so its fields are the same in sections with the
 -- same bytes there
@@ -285,7 +281,7 @@ counts_part order s t at end e =
     next n.next e λ a e.
     next a.next e λ z e. refl
   where
-    next : {B : Type 0} {f g : Read → Outcome B} (at : ℕ) → slice at end s ≡ slice at end t → ((r : Read) → slice r.next end s ≡ slice r.next end t → f r ≡ g r)
+    next : {B : Type 0} {f g : Read ℕ → Outcome B} (at : ℕ) → slice at end s ≡ slice at end t → ((r : Read ℕ) → slice r.next end s ≡ slice r.next end t → f r ≡ g r)
         → (read_number 4 order s at end >>= f) ≡ (read_number 4 order t at end >>= g)
     next {f = f} {g = g} at e more = bind_both (read_number 4 order s at end) (read_number 4 order t at end) f g (read_part 4 order s t at end (omega arith) e) λ r read.
         let (ahead, inside) = read_forward 4 order s at end r (omega arith) read in

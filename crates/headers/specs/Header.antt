@@ -1,13 +1,13 @@
 -- The header of an index: document 01, "Headers and layout"; DWARF 5, section 6.1.1.4.1, a line a field. `s` is the section.
-use Rattle.std.specs.Prelude.{ℕ, ◌%◌, cond, List, length, eqb}
+use Rattle.std.specs.Prelude.{ℕ, ◌%◌, cond, List, length, eqb, Option, Some, None}
 use Rattle.reader.specs.Outcome.{Outcome, answered, ◌>>=◌, ◌>>◌, demand}
 use Rattle.reader.specs.Parts.{skipped, cut}
 use Rattle.reader.specs.Numbers.{read_number, initial_length}
+use Rattle.reader.specs.declared.reader.Read.{Read}
 use Rattle.reader.specs.declared.endianity.RunTimeEndian.{RunTimeEndian}
 use Rattle.headers.specs.declared.header.HeaderCut.{HeaderCut}
 use Rattle.headers.specs.declared.header.Counts.{Counts}
-use Rattle.headers.specs.declared.header.Augmentation.{Augmentation}
-use Rattle.headers.specs.declared.header.ReadAugmentation.{ReadAugmentation}
+use Rattle.headers.specs.declared.header.AugmentationString.{AugmentationString}
 use Rattle.headers.specs.declared.header.NameIndexHeader.{NameIndexHeader}
 
 -- the part of the index whose header begins at `at`: as many bytes as its length says, past the length
@@ -60,11 +60,11 @@ unfoldable pub padding : ℕ → ℕ
 padding size = padding_for (size % 4)
 
 -- the augmentation: none if the size is 0; else its place and length, and the place past its padding, which depends on the size alone
-unfoldable pub augmentation : ℕ → List ℕ → ℕ → ℕ → Outcome ReadAugmentation
-augmentation size s at end = cond (eqb size 0) (answered (record { augmentation = Augmentation.None; next = at })) (do
+unfoldable pub augmentation : ℕ → List ℕ → ℕ → ℕ → Outcome (Read (Option AugmentationString))
+augmentation size s at end = cond (eqb size 0) (answered (record { value = None; next = at })) (do
   string ← cut size s at end
   next ← skipped (padding size) s string.end end
-  answered (record { augmentation = Augmentation.Some (record { place = string.at; len = size }); next = next }))
+  answered (record { value = Some (record { place = string.at; len = size }); next = next }))
 
 -- the fields inside the part
 unfoldable pub header_body : RunTimeEndian → List ℕ → HeaderCut → Outcome NameIndexHeader
@@ -85,7 +85,7 @@ header_body order s c = do
     bucket_count = n.bucket_count;
     name_count = n.name_count;
     abbrev_table_size = n.abbrev_table_size;
-    augmentation_string = a.augmentation;
+    augmentation_string = a.value;
     content = record { at = a.next; end = c.body.end };
   })
 

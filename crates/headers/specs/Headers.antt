@@ -1,6 +1,5 @@
 -- The headers of a section, one after another: document 01, `NameIndexHeaderIter::next`.
-use Rattle.std.specs.Prelude.{ℕ, ◌-◌, cond, List, length, ltb, leb, eqb}
-use Rattle.std.proofs.Math.Option.{Option, some, none}
+use Rattle.std.specs.Prelude.{ℕ, ◌-◌, cond, List, length, ltb, leb, eqb, Option, Some, None}
 use Rattle.reader.specs.Outcome.{Outcome, answered, refused, ◌>>=◌, ◌>>◌, refuse_if}
 use Rattle.reader.specs.Errors.{longest}
 use Rattle.reader.specs.Steps.{Step, keeping}
@@ -16,7 +15,7 @@ first_header = record { at = 0 }
 
 -- after a header the cursor is where its index ends; after a refusal it is at the section's end
 unfoldable pub after_header : List ℕ → Outcome NameIndexHeader → Step NameIndexHeader NameIndexHeaderIter
-after_header s (answered h) = record { answer = answered (some h); cursor = record { at = h.content.end } }
+after_header s (answered h) = record { answer = answered (Some h); cursor = record { at = h.content.end } }
 after_header s (refused n v) = record { answer = refused n v; cursor = record { at = length s } }
 
 -- the step: at the section's end none, else the header there
@@ -24,13 +23,13 @@ unfoldable pub header_step : RunTimeEndian → List ℕ → NameIndexHeaderIter 
 header_step order s c = keeping c (do
   refuse_if (ltb longest (length s)) 13 0
   refuse_if (ltb (length s) c.at) 14 0
-  answered (cond (eqb c.at (length s)) (record { answer = answered none; cursor = c }) (after_header s (header order s c.at))))
+  answered (cond (eqb c.at (length s)) (record { answer = answered None; cursor = c }) (after_header s (header order s c.at))))
 
 -- the header at a place, none at the section's end
 unfoldable pub header_at : RunTimeEndian → List ℕ → ℕ → Outcome (Option NameIndexHeader)
-header_at order s at = cond (leb (length s) at) (answered none) (do
+header_at order s at = cond (leb (length s) at) (answered None) (do
   h ← header order s at
-  answered (some h))
+  answered (Some h))
 
 -- the headers from a place on, each where the index before it ends, up to the section's end or the first that is refused
 unfoldable pub headers_from : RunTimeEndian → List ℕ → ℕ → Listing NameIndexHeader

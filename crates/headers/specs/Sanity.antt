@@ -1,20 +1,17 @@
 -- What a reader of the definitions, and the crates above, may want to be sure of. The laws of proofs/HeaderLaws.antt that have these
 -- types prove them.
-use Rattle.std.specs.Prelude.{ℕ, ◌+◌, ◌-◌, ◌*◌, ◌%◌, ◌≤◌, ◌<◌, ◌≡◌, true, List, [], ◌∷◌, map, length}
-use Rattle.std.proofs.Math.Option.{some}
+use Rattle.std.specs.Prelude.{ℕ, ◌+◌, ◌-◌, ◌*◌, ◌%◌, ◌≤◌, ◌<◌, ◌≡◌, true, List, [], ◌∷◌, map, length, Some}
 use Rattle.std.proofs.Math.Seq.{slice}
 use Rattle.reader.specs.Outcome.{answered}
 use Rattle.reader.specs.Errors.{longest}
-use Rattle.reader.specs.Steps.{Linked, has_end}
+use Rattle.reader.specs.Steps.{Taken, Linked, answers, has_end}
 use Rattle.reader.specs.Listing.{listed}
 use Rattle.reader.specs.declared.endianity.RunTimeEndian.{RunTimeEndian}
 use Rattle.headers.specs.declared.header.HeaderCut.{HeaderCut}
 use Rattle.headers.specs.declared.header.NameIndexHeader.{NameIndexHeader}
 use Rattle.headers.specs.declared.headers.NameIndexHeaderIter.{NameIndexHeaderIter}
-use Rattle.headers.specs.declared.headers.HeaderStep.{HeaderStep}
 use Rattle.headers.specs.Header.{padding, header_body, header}
 use Rattle.headers.specs.Headers.{header_step, header_at, headers_from}
-use Rattle.headers.specs.Answers.{header_step_of}
 
 -- the four cases, for every size
 abbrev pub PaddingCases : Type 0
@@ -49,15 +46,15 @@ HeadersFit =
 -- a step that gives a header moves forward and stays inside the section
 abbrev pub StepsForward : Type 0
 StepsForward =
-    (order : RunTimeEndian) (s : List ℕ) (c : NameIndexHeaderIter) (h : NameIndexHeader) → (header_step order s c).answer ≡ answered (some h)
+    (order : RunTimeEndian) (s : List ℕ) (c : NameIndexHeaderIter) (h : NameIndexHeader) → (header_step order s c).answer ≡ answered (Some h)
     → (c.at < (header_step order s c).cursor.at) × ((header_step order s c).cursor.at ≤ length s)
 
 -- so a walk over the headers of a section ends: of any steps, each given the cursor of the one before, one is the end if they are
 -- more than the bytes that were left
 abbrev pub WalksEnd : Type 0
 WalksEnd =
-    (order : RunTimeEndian) (s : List ℕ) (c : NameIndexHeaderIter) (rs : List HeaderStep) → length s ≤ longest → c.at ≤ length s
-    → Linked header_step_of (header_step order s) c rs → length s - c.at < length rs → has_end (map (λ r. (header_step_of r).answer) rs) ≡ true
+    (order : RunTimeEndian) (s : List ℕ) (c : NameIndexHeaderIter) (ts : List (Taken NameIndexHeader NameIndexHeaderIter)) → length s ≤ longest → c.at ≤ length s
+    → Linked (header_step order s) c ts → length s - c.at < length ts → has_end (answers ts) ≡ true
 
 -- the headers from a place on are the header there, and those from the place where its index ends
 abbrev pub HeadersUnfold : Type 0

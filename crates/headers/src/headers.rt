@@ -1,10 +1,10 @@
 // The headers of a section, one after another (gimli's `DebugNames` and `NameIndexHeaderIter`; document 01, "Headers and layout").
 ghost use Rattle.std.specs.Prelude.{◌≡◌};
-ghost use Rattle.headers.specs.Answers.{header_step_of};
+ghost use Rattle.reader.specs.Steps.{step_of};
 ghost use Rattle.headers.specs.Headers.{first_header, header_step};
 
-use crate::header::{HeaderRead, NameIndexHeader, parse};
-use reader::{Error, RunTimeEndian, too_long};
+use crate::header::{NameIndexHeader, parse};
+use reader::{Error, RunTimeEndian, Step, too_long};
 
 // The lent .debug_names section. gimli's struct holds the section's bytes; here they are lent to each call.
 #[derive(Clone, Copy)]
@@ -16,16 +16,10 @@ pub struct NameIndexHeaderIter {
     pub at: usize,
 }
 
-// What a step answers, with the cursor after it: none at the section's end, a header, or a refusal.
-#[derive(Clone, Copy)]
-pub enum HeaderStep {
-    End(NameIndexHeaderIter),
-    Header(NameIndexHeader, NameIndexHeaderIter),
-    Refused(Error, NameIndexHeaderIter),
-}
-
 impl DebugNames {
     // The cursor before the first header.
+    // (gimli's call, so no `Default`.)
+    #[tactic(auto, unfolding(crate::specs::Headers::first_header))]
     pub fn headers() -> NameIndexHeaderIter
         ensures { result ≡ first_header }
     {
@@ -34,29 +28,42 @@ impl DebugNames {
 }
 
 impl NameIndexHeaderIter {
-    // The next header. After a refusal the cursor is at the section's end, so that the next step is the end; after 13 and 14 it
-    // is as it was.
-    pub fn next(self, order: RunTimeEndian, section: &[u8]) -> HeaderStep
-        ensures { header_step_of result ≡ header_step order section.now self }
+    // The next header; none at the section's end. After a refusal the cursor is at the section's end, so that the next step is the end;
+    // after 13 and 14 it is as it was.
+    pub fn next(
+        self,
+        order: RunTimeEndian,
+        section: &[u8],
+    ) -> Step<NameIndexHeader, NameIndexHeaderIter>
+        ensures { step_of result.answer result.cursor ≡ header_step order section.now self }
     {
-        let at = self.at;
+        let mut cursor = self;
+        let answer = cursor.advance(order, section);
+        Step { answer, cursor }
+    }
+
+    // The same step of the cursor itself, so that a refusal can go up by `?`.
+    #[tactic(auto, unfolding(crate::specs::Headers::header_step, crate::specs::Headers::after_header))]
+    fn advance(
+        &mut self,
+        order: RunTimeEndian,
+        section: &[u8],
+    ) -> Result<Option<NameIndexHeader>, Error>
+        ensures { step_of result self.new ≡ header_step order section.now self.old }
+    {
         if too_long(section) {
-            return HeaderStep::Refused(Error::SectionTooLong, self);
+            return Err(Error::SectionTooLong);
         }
+        let at = self.at;
         if section.len() < at {
-            return HeaderStep::Refused(Error::DoesNotFit, self);
+            return Err(Error::DoesNotFit);
         }
         if at == section.len() {
-            return HeaderStep::End(self);
+            return Ok(None);
         }
-        match parse(order, section, at) {
-            HeaderRead::Value(h) => {
-                let content = h.content;
-                HeaderStep::Header(h, NameIndexHeaderIter { at: content.end })
-            }
-            HeaderRead::Refused(e) => {
-                HeaderStep::Refused(e, NameIndexHeaderIter { at: section.len() })
-            }
-        }
+        self.at = section.len();
+        let header = parse(order, section, at)?;
+        self.at = header.content.end;
+        Ok(Some(header))
     }
 }

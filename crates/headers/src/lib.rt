@@ -9,8 +9,5 @@
 pub mod header; // a header: its part cut out by its length, and its fields
 pub mod headers; // the headers of a section, one after another
 
-pub use header::{
-    Augmentation, AugmentationString, HeaderCut, HeaderCutRead, HeaderRead, NameIndexHeader,
-    cut_header, parse_body,
-};
-pub use headers::{DebugNames, HeaderStep, NameIndexHeaderIter};
+pub use header::{AugmentationString, HeaderCut, NameIndexHeader, cut_header, parse_body};
+pub use headers::{DebugNames, NameIndexHeaderIter};

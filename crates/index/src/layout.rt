@@ -3,14 +3,14 @@
 // gimli's struct holds a reader for each part. Here it holds the counts, the place where the parts begin and the place where the
 // pool ends; every part's place follows from these, so that no two fields can contradict each other.
 ghost use Rattle.std.specs.Prelude.{◌≡◌, ◌≤◌};
+ghost use Rattle.reader.specs.Answers.{outcome};
 ghost use Rattle.reader.specs.Errors.{longest};
-ghost use Rattle.index.specs.Answers.{parts_outcome};
-ghost use Rattle.index.specs.Layout.{no_index, word_bytes, hash_bytes, parts, fitted};
+ghost use Rattle.index.specs.Layout.{word_bytes, hash_bytes, parts, fitted};
 
 use reader::{Error, Format, too_long};
 
-// An index of the section.
-#[derive(Clone, Copy)]
+// An index of the section. The default is one without names and units, which fits every section: for a cursor that has opened none yet.
+#[derive(Clone, Copy, Default)]
 pub struct NameIndex {
     pub format: Format,
     pub compile_unit_count: u32,
@@ -22,23 +22,6 @@ pub struct NameIndex {
     // Where its parts begin, and where its pool ends.
     pub begin: usize,
     pub end: usize,
-}
-
-// An index without names and units, which fits every section: for a cursor that has opened no index yet.
-pub fn no_index() -> NameIndex
-    ensures { result ≡ no_index }
-{
-    NameIndex {
-        format: Format::Dwarf32,
-        compile_unit_count: 0,
-        local_type_unit_count: 0,
-        foreign_type_unit_count: 0,
-        bucket_count: 0,
-        name_count: 0,
-        abbrev_table_size: 0,
-        begin: 0,
-        end: 0,
-    }
 }
 
 // The place where each part of an index begins. Each ends where the next begins, and the pool ends at `end`.
@@ -56,13 +39,8 @@ pub struct Parts {
     pub end: usize,
 }
 
-#[derive(Clone, Copy)]
-pub enum PartsRead {
-    Value(Parts),
-    Refused(Error),
-}
-
 // The bytes of n words.
+#[tactic(auto, unfolding(crate::specs::Layout::word_bytes))]
 pub fn words(format: Format, n: u32) -> usize
     ensures { result ≡ word_bytes format n }
 {
@@ -73,6 +51,7 @@ pub fn words(format: Format, n: u32) -> usize
 }
 
 // The bytes of the hashes: none without buckets.
+#[tactic(auto, unfolding(crate::specs::Layout::hash_bytes))]
 fn hashes(buckets: u32, names: u32) -> usize
     ensures { result ≡ hash_bytes buckets names }
 {
@@ -83,14 +62,15 @@ fn hashes(buckets: u32, names: u32) -> usize
 }
 
 // Where each part of the index begins.
+// (They need the section's limit, so no `From`.)
+#[tactic(auto, unfolding(crate::specs::Layout::parts, crate::specs::Layout::place, crate::specs::Layout::places_from, crate::specs::Layout::sizes), using(crate::proofs::LayoutLaws::words_most, crate::proofs::LayoutLaws::hashes_most, reader::proofs::ErrorLaws::longest_most))]
 pub(crate) fn places(index: NameIndex) -> Parts
     requires { index.begin ≤ longest }
     ensures { result ≡ parts index }
 {
-    let format = index.format;
-    let names = words(format, index.name_count);
-    let local = index.begin + words(format, index.compile_unit_count);
-    let foreign = local + words(format, index.local_type_unit_count);
+    let names = words(index.format, index.name_count);
+    let local = index.begin + words(index.format, index.compile_unit_count);
+    let foreign = local + words(index.format, index.local_type_unit_count);
     let buckets = foreign + 8 * (index.foreign_type_unit_count as usize);
     let table = buckets + 4 * (index.bucket_count as usize);
     let strings = table + hashes(index.bucket_count, index.name_count);
@@ -112,21 +92,22 @@ pub(crate) fn places(index: NameIndex) -> Parts
 
 // Where the parts of an index lie in a section that it fits. The index's places are compared with the section's length before
 // anything is added to them, so that no sum is too large for its type.
-pub fn fit(section: &[u8], index: NameIndex) -> PartsRead
-    ensures { parts_outcome result ≡ fitted section.now index }
+#[tactic(auto, unfolding(crate::specs::Layout::fitted), using(crate::proofs::LayoutLaws::pool_past))]
+pub fn fit(section: &[u8], index: NameIndex) -> Result<Parts, Error>
+    ensures { outcome result ≡ fitted section.now index }
 {
     if too_long(section) {
-        return PartsRead::Refused(Error::SectionTooLong);
+        return Err(Error::SectionTooLong);
     }
     if section.len() < index.end {
-        return PartsRead::Refused(Error::DoesNotFit);
+        return Err(Error::DoesNotFit);
     }
     if section.len() < index.begin {
-        return PartsRead::Refused(Error::DoesNotFit);
+        return Err(Error::DoesNotFit);
     }
     let p = places(index);
     if index.end < p.entry_pool {
-        return PartsRead::Refused(Error::DoesNotFit);
+        return Err(Error::DoesNotFit);
     }
-    PartsRead::Value(p)
+    Ok(p)
 }

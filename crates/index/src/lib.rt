@@ -9,5 +9,5 @@
 pub mod layout; // an index: where each of its parts lies
 pub mod open; // an index from a header
 
-pub use layout::{NameIndex, Parts, PartsRead, fit, no_index, words};
-pub use open::{IndexRead, index};
+pub use layout::{NameIndex, Parts, fit, words};
+pub use open::index;

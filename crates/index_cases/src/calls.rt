@@ -1,58 +1,60 @@
 // The calls of the crate `names` on an index. A text of calls has, for each, a letter, and the name with the number that is asked for, up to a
 // slash; spaces may stand before the letter. Printed are the name of the line's case, that of the call, and the answer.
-use crate::line::{calls_of, given};
+use crate::line::{Case, calls_of, given};
 use crate::sections::count;
 use crate::{print, sections};
 use index::{NameIndex, fit};
 use names::{
-    NameTableIter, NameTableStep, bucket_count, compile_unit, compile_unit_count,
-    default_compile_unit, foreign_type_unit, foreign_type_unit_count, get_abbreviation,
-    has_hash_table, local_type_unit, local_type_unit_count, name_count, name_string,
-    name_string_offset, name_string_slice, names, type_unit, type_unit_count,
+    NameTableIter, bucket_count, compile_unit, compile_unit_count, default_compile_unit,
+    foreign_type_unit, foreign_type_unit_count, get_abbreviation, has_hash_table, local_type_unit,
+    local_type_unit_count, name_count, name_string, name_string_offset, name_string_slice, names,
+    type_unit, type_unit_count,
 };
-use reader::{NameTableIndex, RunTimeEndian};
+use reader::{Error, NameTableIndex};
 use std::io;
 
+// Case A's .debug_str.
+const STRINGS: &[u8] = b"\x00abc\x00de\x00";
+
+// What the calls are made on: the case of a line, an index, and the bytes of .debug_str that are lent.
+#[derive(Clone, Copy)]
+struct On<'a> {
+    case: Case<'a>,
+    index: NameIndex,
+    strings: &'a [u8],
+}
+
 // The calls of a line on the index of its section. The line's number is how many bytes of case A's .debug_str are lent.
-pub fn opened(rt: &impl Print, line: &[u8], order: RunTimeEndian, s: &[u8]) -> io::Result<()> {
-    let strings = given(line, 2, 0) as usize;
-    each(
-        rt,
-        line,
-        order,
-        s,
-        strings,
-        sections::opened(order, s),
-        calls_of(line),
-    )
+pub fn opened(rt: &impl Print, case: Case) -> io::Result<()> {
+    let on = On {
+        case,
+        index: sections::opened(case.order, case.section),
+        strings: STRINGS
+            .get(..given(case.line, 2, 0) as usize)
+            .unwrap_or(STRINGS),
+    };
+    on.each(rt, calls_of(case.line))
 }
 
 // The calls of a line on an index, with an empty .debug_str.
-pub fn made(
-    rt: &impl Print,
-    line: &[u8],
-    order: RunTimeEndian,
-    s: &[u8],
-    i: NameIndex,
-) -> io::Result<()> {
-    each(rt, line, order, s, 0, i, calls_of(line))
+pub fn made(rt: &impl Print, case: Case, index: NameIndex) -> io::Result<()> {
+    let on = On {
+        case,
+        index,
+        strings: b"",
+    };
+    on.each(rt, calls_of(case.line))
 }
 
 // Each call that takes an index. The strings are case A's, and then none: no string offset is read, and so none is refused with 1.
-pub fn every(
-    rt: &impl Print,
-    line: &[u8],
-    order: RunTimeEndian,
-    s: &[u8],
-    i: NameIndex,
-) -> io::Result<()> {
-    each(
+pub fn every(rt: &impl Print, case: Case, index: NameIndex) -> io::Result<()> {
+    let on = On {
+        case,
+        index,
+        strings: STRINGS,
+    };
+    on.each(
         rt,
-        line,
-        order,
-        s,
-        8,
-        i,
         b"p fit/C compile_unit_count/L local_type_unit_count/F foreign_type_unit_count/T type_unit_count/\
         B bucket_count/N name_count/H has_hash_table/\
         c compile_unit 0/c compile_unit 4294967295/l local_type_unit 0/f foreign_type_unit 0/\
@@ -60,119 +62,86 @@ pub fn every(
         n names, cursor 0/n names, cursor 4294967295/o name_string_offset 0/o name_string_offset 4/\
         s name_string 0/b name_string_slice 0/",
     )?;
-    each(
+    let without = On { strings: b"", ..on };
+    without.each(
         rt,
-        line,
-        order,
-        s,
-        0,
-        i,
         b"s without strings, name_string 0/b without strings, name_string_slice 0/a get_abbreviation 1/",
     )
 }
 
-// The calls of a text.
-fn each(
-    rt: &impl Print,
-    line: &[u8],
-    order: RunTimeEndian,
-    s: &[u8],
-    strings: usize,
-    i: NameIndex,
-    calls: &[u8],
-) -> io::Result<()> {
-    let mut from = 0;
-    for at in 0..calls.len() {
-        if from == at && calls[at] == b' ' {
-            from = at + 1;
+impl On<'_> {
+    // The calls of a text.
+    fn each(self, rt: &impl Print, calls: &[u8]) -> io::Result<()> {
+        for call in calls.split(|b| *b == b'/') {
+            self.one(rt, call.trim_ascii_start())?;
         }
-        if from <= at && calls[at] == b'/' {
-            let call = &calls[from..at];
-            from = at + 1;
-            one(rt, line, order, s, strings, i, call)?;
+        Ok(())
+    }
+
+    // A call: its letter, a space, and its name, which has the number.
+    fn one(self, rt: &impl Print, call: &[u8]) -> io::Result<()> {
+        let [letter, _, title @ ..] = call else {
+            return Ok(());
+        };
+        let s = self.case.section;
+        let i = self.index;
+        let n = given(call, 0, 0);
+        print::call(rt, self.case.line, title)?;
+        match *letter {
+            b'c' | b'l' | b'f' | b't' | b'd' => self.unit(rt, *letter, count(n)),
+            b'n' | b'o' | b's' | b'b' => self.name(rt, *letter, NameTableIndex(count(n))),
+            b'a' => print::abbreviation(rt, get_abbreviation(s, i, n)),
+            b'H' => print::number(rt, has_hash_table(s, i)),
+            b'p' => print::parts_read(rt, fit(s, i)),
+            _ => self.count(rt, *letter),
         }
     }
-    Ok(())
-}
 
-// A call: its letter, a space, and its name, which has the number.
-fn one(
-    rt: &impl Print,
-    line: &[u8],
-    order: RunTimeEndian,
-    s: &[u8],
-    strings: usize,
-    i: NameIndex,
-    call: &[u8],
-) -> io::Result<()> {
-    if call.len() < 2 {
-        return Ok(());
+    // A count of the index.
+    fn count(self, rt: &impl Print, call: u8) -> io::Result<()> {
+        let counted: fn(&[u8], NameIndex) -> Result<u32, Error> = match call {
+            b'C' => compile_unit_count,
+            b'L' => local_type_unit_count,
+            b'F' => foreign_type_unit_count,
+            b'T' => type_unit_count,
+            b'B' => bucket_count,
+            _ => name_count,
+        };
+        print::number(rt, counted(self.case.section, self.index))
     }
-    let letter = call[0];
-    let n = given(call, 0, 0);
-    print::call(rt, line, &call[2..])?;
-    match letter {
-        b'c' | b'l' | b'f' | b't' | b'd' => unit(rt, letter, order, s, i, count(n)),
-        b'n' | b'o' | b's' | b'b' => name(rt, letter, order, s, strings, i, count(n)),
-        b'a' => print::abbreviation(rt, get_abbreviation(s, i, n)),
-        _ => whole(rt, letter, s, i),
-    }
-}
 
-// What is asked of an index as a whole: its counts, the flag, and where its parts lie.
-fn whole(rt: &impl Print, call: u8, s: &[u8], i: NameIndex) -> io::Result<()> {
-    match call {
-        b'C' => print::count(rt, compile_unit_count(s, i)),
-        b'L' => print::count(rt, local_type_unit_count(s, i)),
-        b'F' => print::count(rt, foreign_type_unit_count(s, i)),
-        b'T' => print::count(rt, type_unit_count(s, i)),
-        b'B' => print::count(rt, bucket_count(s, i)),
-        b'N' => print::count(rt, name_count(s, i)),
-        b'H' => print::flag(rt, has_hash_table(s, i)),
-        _ => print::parts_read(rt, fit(s, i)),
+    // A unit by its number, and the default one.
+    // (A `match` on the letter: the calls take other arguments each, so that a table of closures would be longer.)
+    fn unit(self, rt: &impl Print, call: u8, number: u32) -> io::Result<()> {
+        let Case {
+            order,
+            section: s,
+            ..
+        } = self.case;
+        let i = self.index;
+        match call {
+            b'c' => print::unit(rt, compile_unit(order, s, i, number)),
+            b'l' => print::unit(rt, local_type_unit(order, s, i, number)),
+            b'f' => print::signature(rt, foreign_type_unit(order, s, i, number)),
+            b't' => print::type_unit(rt, type_unit(order, s, i, number)),
+            _ => print::default_unit(rt, default_compile_unit(order, s, i)),
+        }
     }
-}
 
-// A unit by its number, and the default one.
-fn unit(
-    rt: &impl Print,
-    call: u8,
-    order: RunTimeEndian,
-    s: &[u8],
-    i: NameIndex,
-    number: u32,
-) -> io::Result<()> {
-    match call {
-        b'c' => print::unit(rt, compile_unit(order, s, i, number)),
-        b'l' => print::unit(rt, local_type_unit(order, s, i, number)),
-        b'f' => print::signature(rt, foreign_type_unit(order, s, i, number)),
-        b't' => print::type_unit(rt, type_unit(order, s, i, number)),
-        _ => print::default_unit(rt, default_compile_unit(order, s, i)),
-    }
-}
-
-// A step over the names from a number on, and a name's string: its offset, where it stands, and its bytes.
-fn name(
-    rt: &impl Print,
-    call: u8,
-    order: RunTimeEndian,
-    s: &[u8],
-    strings: usize,
-    i: NameIndex,
-    number: u32,
-) -> io::Result<()> {
-    let name = NameTableIndex(number);
-    let all = b"\x00abc\x00de\x00";
-    let whole = &all[..];
-    if whole.len() < strings {
-        return Ok(());
-    }
-    let lent = &whole[0..strings];
-    match call {
-        b'n' => step(rt, s, i, name),
-        b'o' => print::str_offset(rt, name_string_offset(order, s, i, name)),
-        b's' => show::str_read(rt, name_string(order, s, lent, i, name)),
-        _ => print::bytes(rt, name_string_slice(order, s, lent, i, name)),
+    // A step over the names from a number on, and a name's string: its offset, where it stands, and its bytes.
+    fn name(self, rt: &impl Print, call: u8, name: NameTableIndex) -> io::Result<()> {
+        let Case {
+            order,
+            section: s,
+            ..
+        } = self.case;
+        let i = self.index;
+        match call {
+            b'n' => step(rt, s, i, name),
+            b'o' => print::str_offset(rt, name_string_offset(order, s, i, name)),
+            b's' => show::str_read(rt, name_string(order, s, self.strings, i, name)),
+            _ => print::bytes(rt, name_string_slice(order, s, self.strings, i, name)),
+        }
     }
 }
 
@@ -184,32 +153,15 @@ fn step(rt: &impl Print, s: &[u8], i: NameIndex, name: NameTableIndex) -> io::Re
     print::name_step(rt, cursor.next(s, i))
 }
 
-// Steps over the names, with the cursor that the one before handed back.
-pub fn walk(rt: &impl Print, line: &[u8], order: RunTimeEndian, s: &[u8]) -> io::Result<()> {
-    let i = sections::opened(order, s);
-    let one = next(rt, line, 1, s, i, names())?;
-    let two = next(rt, line, 2, s, i, one)?;
-    let three = next(rt, line, 3, s, i, two)?;
-    let four = next(rt, line, 4, s, i, three)?;
-    next(rt, line, 5, s, i, four)?;
-    Ok(())
-}
-
-// A step, and the cursor after it.
-fn next(
-    rt: &impl Print,
-    line: &[u8],
-    number: u64,
-    s: &[u8],
-    i: NameIndex,
-    cursor: NameTableIter,
-) -> io::Result<NameTableIter> {
-    let r = cursor.next(s, i);
-    print::numbered(rt, line, number)?;
-    print::name_step(rt, r)?;
-    match r {
-        NameTableStep::End(c) => Ok(c),
-        NameTableStep::Name(_, c) => Ok(c),
-        NameTableStep::Refused(_, c) => Ok(c),
+// Steps over the names, with the cursor that the one before left.
+pub fn walk(rt: &impl Print, case: Case) -> io::Result<()> {
+    let i = sections::opened(case.order, case.section);
+    let mut cursor = names();
+    for n in 1..=5 {
+        let step = cursor.next(case.section, i);
+        print::numbered(rt, case.line, n)?;
+        print::name_step(rt, step)?;
+        cursor = step.cursor;
     }
+    Ok(())
 }

@@ -28,7 +28,7 @@
 //     e  the table up to each of the ends
 //     d  the declaration at each of the places
 //     a  the pair at each of the places
-use crate::line::{Number, bytes_of, given, name_of, number_of};
+use crate::line::{Case, bytes_of, given, name_of, number_of};
 use crate::sections::{count, index_of};
 use crate::{calls, cuts, header_steps, misfits, print};
 use abbreviations::{get, parse, read_attribute, read_declaration};
@@ -38,136 +38,117 @@ use names::nth_word;
 use reader::{Format, RunTimeEndian};
 use std::io;
 
-// The cases of a text, one on each line.
-pub fn lines(rt: &impl Print, text: &[u8]) -> io::Result<()> {
-    let mut from = 0;
-    for at in 0..text.len() {
-        if from <= at && text[at] == b'\n' {
-            case(rt, &text[from..at])?;
-            from = at + 1;
-        }
-    }
-    Ok(())
-}
-
 // A line: its section, with a byte changed if the line says so.
-fn case(rt: &impl Print, line: &[u8]) -> io::Result<()> {
-    let read = bytes_of(line);
-    let mut bytes = read.values;
-    if let Number::Some(place) = number_of(line, 3, 0) {
-        if place < 128 {
-            bytes[place as usize] = (given(line, 3, 1) % 256) as u8;
-        }
-    }
-    section(rt, line, &bytes, read.digits / 2)
-}
-
-// The section is at the start of the bytes.
-fn section(rt: &impl Print, line: &[u8], bytes: &[u8; 128], len: usize) -> io::Result<()> {
-    let whole = &bytes[..];
-    if line.len() < 2 {
+pub fn case(rt: &impl Print, line: &[u8]) -> io::Result<()> {
+    let [what, letter, ..] = line else {
         return Ok(());
+    };
+    let mut read = bytes_of(line);
+    if let Some(place) = number_of(line, 3, 0)
+        && let Some(byte) = read.values.get_mut(place as usize)
+    {
+        *byte = (given(line, 3, 1) % 256) as u8;
     }
-    if whole.len() < len {
+    // The section is at the start of the bytes.
+    let Some(section) = read.values.get(..read.digits / 2) else {
         return Ok(());
-    }
-    asked(rt, line, line[0], line[1], &whole[0..len])
-}
-
-// What is asked of the section, with the name of the case and the answer on a line.
-fn asked(rt: &impl Print, line: &[u8], what: u8, letter: u8, s: &[u8]) -> io::Result<()> {
-    let order = if letter == b'B' {
+    };
+    let order = if *letter == b'B' || *letter == b'6' {
         RunTimeEndian::Big
     } else {
         RunTimeEndian::Little
     };
+    let case = Case {
+        line,
+        order,
+        section,
+    };
+    asked(rt, case, *what, *letter)
+}
+
+// What is asked of the section, with the name of the case and the answer on a line.
+// (A `match` on the letter: the calls take other arguments each, so that a table of closures would be longer.)
+fn asked(rt: &impl Print, case: Case, what: u8, letter: u8) -> io::Result<()> {
+    let Case {
+        line,
+        order,
+        section,
+    } = case;
     match what {
         b'#' => Ok(()),
-        b'f' => header_steps::first(rt, line, order, s),
-        b'x' => header_steps::open(rt, line, order, s),
-        b't' => header_steps::three(rt, line, order, s),
+        b'f' => header_steps::first(rt, case),
+        b'x' => header_steps::open(rt, case),
+        b't' => header_steps::three(rt, case),
         b'r' => cuts::kept(rt, line),
         b'l' => cuts::fitted(rt, line),
-        b'i' => calls::opened(rt, line, order, s),
-        b'v' => calls::walk(rt, line, order, s),
+        b'i' => calls::opened(rt, case),
+        b'v' => calls::walk(rt, case),
         b'n' => {
+            let n = count(given(line, 2, 0));
             print::case(rt, line)?;
-            show::word_read(
-                rt,
-                nth_word(Format::Dwarf32, order, s, 60, 72, count(given(line, 2, 0))),
-            )
+            show::word_read(rt, nth_word(Format::Dwarf32, order, section, 60, 72, n))
         }
         b'w' => {
             print::case(rt, line)?;
-            print::table(rt, parse(s, 0, s.len()))?;
-            each(rt, line, what, order, s)
+            print::table(rt, parse(section, 0, section.len()))?;
+            each(rt, case, what)
         }
-        b'j' | b'm' | b'p' | b'h' | b'k' => made(rt, line, what, letter, s),
-        _ => each(rt, line, what, order, s),
+        b'j' | b'm' | b'p' | b'h' | b'k' => made(rt, case, what, letter),
+        _ => each(rt, case, what),
     }
 }
 
 // An index, or a header, that is made of the numbers.
-fn made(rt: &impl Print, line: &[u8], what: u8, letter: u8, s: &[u8]) -> io::Result<()> {
-    let wide = letter == b'6';
-    let format = if wide {
+// (A `match` on the letter: the calls take other arguments each, so that a table of closures would be longer.)
+fn made(rt: &impl Print, case: Case, what: u8, letter: u8) -> io::Result<()> {
+    let format = if letter == b'6' {
         Format::Dwarf64
     } else {
         Format::Dwarf32
     };
-    let order = if wide {
-        RunTimeEndian::Big
-    } else {
-        RunTimeEndian::Little
-    };
-    let i = index_of(format, line);
+    let i = index_of(format, case.line);
     match what {
-        b'j' => calls::made(rt, line, order, s, i),
-        b'm' => calls::every(rt, line, order, s, i),
-        b'p' => misfits::fits(rt, line, s, i),
-        b'h' => misfits::header(rt, line, s),
+        b'j' => calls::made(rt, case, i),
+        b'm' => calls::every(rt, case, i),
+        b'p' => misfits::fits(rt, case.line, case.section, i),
+        b'h' => misfits::header(rt, case.line, case.section),
         _ => {
-            print::case(rt, line)?;
-            show::ok1(rt, words(format, i.compile_unit_count) as u64)
+            print::case(rt, case.line)?;
+            show::ok(rt, &[words(format, i.compile_unit_count) as u64])
         }
     }
 }
 
 // What is asked for each of the numbers, at most eight.
-fn each(rt: &impl Print, line: &[u8], what: u8, order: RunTimeEndian, s: &[u8]) -> io::Result<()> {
-    for k in 0..8 {
-        match number_of(line, 2, k) {
-            Number::Some(n) => one(rt, line, what, order, s, n)?,
-            Number::None => return Ok(()),
-        }
+fn each(rt: &impl Print, case: Case, what: u8) -> io::Result<()> {
+    for n in (0..8).map_while(|k| number_of(case.line, 2, k)) {
+        one(rt, case, what, n)?;
     }
     Ok(())
 }
 
 // The name, the number and the answer; a search has "code" before its number.
-fn one(
-    rt: &impl Print,
-    line: &[u8],
-    what: u8,
-    order: RunTimeEndian,
-    s: &[u8],
-    n: u64,
-) -> io::Result<()> {
+// (A `match` on the letter: the calls take other arguments each, so that a table of closures would be longer.)
+fn one(rt: &impl Print, case: Case, what: u8, n: u64) -> io::Result<()> {
+    let Case {
+        line,
+        order,
+        section,
+    } = case;
     let at = n as usize;
     show::text(rt, name_of(line))?;
     if what == b'w' || what == b'q' {
         show::text(rt, b", code")?;
     }
-    print::number(rt, n)?;
-    show::text(rt, b":")?;
+    print!(rt; " {n}:")?;
     match what {
-        b's' => header_steps::stands(rt, order, s, at),
-        b'g' => cuts::opened(rt, order, s, at),
-        b'c' => print::cut_read(rt, cut_header(order, s, at)),
-        b'b' => header_steps::body(rt, order, s, at),
-        b'e' => print::table(rt, parse(s, 0, at)),
-        b'd' => print::declaration(rt, read_declaration(s, at, s.len())),
-        b'a' => print::attribute(rt, read_attribute(s, at, s.len())),
-        _ => print::abbreviation(rt, get(s, 0, s.len(), n)),
+        b's' => header_steps::stands(rt, order, section, at),
+        b'g' => cuts::opened(rt, order, section, at),
+        b'c' => print::cut_read(rt, cut_header(order, section, at)),
+        b'b' => header_steps::body(rt, order, section, at),
+        b'e' => print::table(rt, parse(section, 0, at)),
+        b'd' => print::declaration(rt, read_declaration(section, at, section.len())),
+        b'a' => print::attribute(rt, read_attribute(section, at, section.len())),
+        _ => print::abbreviation(rt, get(section, 0, section.len(), n)),
     }
 }

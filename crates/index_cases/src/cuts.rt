@@ -9,7 +9,7 @@ pub fn kept(rt: &impl Print, line: &[u8]) -> io::Result<()> {
     let a = sections::CASE_A;
     for n in 0..110 {
         print::numbered(rt, line, n as u64)?;
-        header_steps::start(rt, RunTimeEndian::Little, &a, n)?;
+        header_steps::stands(rt, RunTimeEndian::Little, &a[..n], 0)?;
     }
     Ok(())
 }
@@ -17,29 +17,19 @@ pub fn kept(rt: &impl Print, line: &[u8]) -> io::Result<()> {
 // The length field set to fit, n - 4: the header's fields at 4, 6, 8, 12, 16, 20, 24, 28 and 32 are missing in turn, and then the index's
 // parts at 36, 40, 48, 60, 72 and 84; from 91 on the index opens.
 pub fn fitted(rt: &impl Print, line: &[u8]) -> io::Result<()> {
+    let mut a = sections::CASE_A;
     for n in 4..110 {
-        fit(rt, line, n)?;
+        a[0] = (n - 4) as u8;
+        print::numbered(rt, line, n as u64)?;
+        opened(rt, RunTimeEndian::Little, &a, n)?;
     }
     Ok(())
 }
 
-fn fit(rt: &impl Print, line: &[u8], n: usize) -> io::Result<()> {
-    let mut a = sections::CASE_A;
-    if n < 4 {
-        return Ok(());
-    }
-    if 109 < n {
-        return Ok(());
-    }
-    a[0] = (n - 4) as u8;
-    print::numbered(rt, line, n as u64)?;
-    opened(rt, RunTimeEndian::Little, &a, n)
-}
-
 // The first bytes of a section: a header's refusal, with the cursor; or "header", and what opening its index says.
 pub fn opened(rt: &impl Print, order: RunTimeEndian, s: &[u8], n: usize) -> io::Result<()> {
-    if s.len() < n {
+    let Some(part) = s.get(..n) else {
         return Ok(());
-    }
-    header_steps::opened(rt, order, &s[0..n], b" header,")
+    };
+    header_steps::opened(rt, order, part, b" header,")
 }

@@ -16,13 +16,8 @@ use std::io;
 fn main(rt: HostRuntime) -> io::Result<()> {
     let mut bytes = [0; 65536];
     let len = standard_input::read_full(&rt, &mut bytes)?;
-    run(&rt, &bytes, len)
-}
-
-// The text at the start of the bytes.
-fn run(rt: &impl Print, bytes: &[u8], len: usize) -> io::Result<()> {
-    if bytes.len() < len {
-        return Ok(());
+    for line in bytes[..len].split(|b| *b == b'\n') {
+        cases::case(&rt, line)?;
     }
-    cases::lines(rt, &bytes[0..len])
+    Ok(())
 }

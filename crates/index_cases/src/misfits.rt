@@ -1,8 +1,7 @@
-// Handles that may not fit case A's section of 109 bytes: where they do not, each call answers 14, and a step hands its cursor back as it
-// was.
+// Handles that may not fit case A's section of 109 bytes: where they do not, each call answers 14, and a step leaves its cursor as it was.
 use crate::line::given;
 use crate::print;
-use headers::{Augmentation, NameIndexHeader};
+use headers::NameIndexHeader;
 use index::{NameIndex, fit};
 use reader::{DebugNamesOffset, Format, Part};
 use std::io;
@@ -17,12 +16,10 @@ pub fn header(rt: &impl Print, line: &[u8], s: &[u8]) -> io::Result<()> {
 }
 
 fn with_content(at: usize, end: usize) -> NameIndexHeader {
-    let format = Format::Dwarf32;
-    let none = Augmentation::None;
     NameIndexHeader {
         offset: DebugNamesOffset(0),
         length: 105,
-        format: format,
+        format: Format::Dwarf32,
         version: 5,
         compile_unit_count: 1,
         local_type_unit_count: 0,
@@ -30,8 +27,8 @@ fn with_content(at: usize, end: usize) -> NameIndexHeader {
         bucket_count: 2,
         name_count: 3,
         abbrev_table_size: 7,
-        augmentation_string: none,
-        content: Part { at: at, end: end },
+        augmentation_string: None,
+        content: Part { at, end },
     }
 }
 

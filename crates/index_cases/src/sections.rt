@@ -1,7 +1,7 @@
 // The bytes and the indexes of the cases.
 use crate::line::given;
-use headers::{DebugNames, HeaderStep};
-use index::{IndexRead, NameIndex};
+use headers::DebugNames;
+use index::NameIndex;
 use reader::{Format, RunTimeEndian};
 
 // Document 01's case A, 109 bytes, and zeros behind it: header, unit (36), starts (40), hashes (48), strings (60), entry offsets (72),
@@ -47,7 +47,7 @@ pub const WIDE: [u8; 128] = *b"\xff\xff\xff\xff\x00\x00\x00\x00\x00\x00\x00\x6a\
 // The index of the numbers C, L, F, B, N, A, begin and end of a line.
 pub fn index_of(format: Format, line: &[u8]) -> NameIndex {
     NameIndex {
-        format: format,
+        format,
         compile_unit_count: count(given(line, 2, 0)),
         local_type_unit_count: count(given(line, 2, 1)),
         foreign_type_unit_count: count(given(line, 2, 2)),
@@ -66,27 +66,14 @@ pub fn count(n: u64) -> u32 {
 
 // The first index of a section, opened; where that is refused, an index that fits no section.
 pub fn opened(order: RunTimeEndian, s: &[u8]) -> NameIndex {
-    let first = DebugNames::headers();
-    match first.next(order, s) {
-        HeaderStep::Header(h, _) => match NameIndex::new(s, h) {
-            IndexRead::Value(i) => i,
-            IndexRead::Refused(_) => nothing(),
-        },
-        HeaderStep::End(_) => nothing(),
-        HeaderStep::Refused(_, _) => nothing(),
-    }
+    first(order, s).unwrap_or(NameIndex {
+        begin: usize::MAX,
+        end: usize::MAX,
+        ..NameIndex::default()
+    })
 }
 
-fn nothing() -> NameIndex {
-    NameIndex {
-        format: Format::Dwarf32,
-        compile_unit_count: 0,
-        local_type_unit_count: 0,
-        foreign_type_unit_count: 0,
-        bucket_count: 0,
-        name_count: 0,
-        abbrev_table_size: 0,
-        begin: 18446744073709551615,
-        end: 18446744073709551615,
-    }
+fn first(order: RunTimeEndian, s: &[u8]) -> Option<NameIndex> {
+    let header = DebugNames::headers().next(order, s).answer.ok()??;
+    NameIndex::new(s, header).ok()
 }

@@ -1,12 +1,12 @@
--- Laws of matching: bytes that are compared one by one, and the names that match, one at a time.
-use Prim.Native.Nat.{ℕ, suc, ◌+◌, ◌-◌, ◌≤◌, ◌<◌}
+-- Laws of matching: when two lists of bytes are the same, and the names that match, one at a time.
+use Prim.Native.Nat.{ℕ, suc, ◌+◌, ◌<◌}
 use mathlib.Core.Path.{◌≡◌, refl, sym, ap, ap₂, ◌∙◌}
-use mathlib.Core.Bool.{Bool, true, false, cond}
+use mathlib.Core.Bool.{Bool, true, false, cond, ◌&&◌}
+use Rattle.std.specs.Cmp.Lexicographic.{pointwise}
+use Rattle.std.specs.Prelude.{nat_eq}
 use mathlib.Core.List.{List, [], ◌∷◌}
 use native.Mathlib.Omega.{arith}
-use native.Mathlib.Numerals.{add-one}
-use lib.ListN.{length, take, drop, get_or, drop_of_length-le, length-take, length-drop}
-use lib.Seq.{drop-cons}
+use lib.ListN.{length, take, drop, length-take, length-drop}
 use lib.Dec.{ltb, eqb}
 use borrow.Author.Tests.{eqb-true, eq-eqb}
 use Rattle.reader.specs.Outcome.{Outcome, answered, refused, refuse_if}
@@ -18,7 +18,7 @@ use Rattle.reader.proofs.ListLaws.{false_true}
 use Rattle.reader.proofs.OutcomeLaws.{bind_answered, then_answered, same_answer}
 use Rattle.index.specs.declared.layout.NameIndex.{NameIndex}
 use Rattle.index.specs.Layout.{fitted}
-use Rattle.strings.specs.Strings.{Text}
+use Rattle.strings.specs.declared.Str.{Str}
 use Rattle.strings.proofs.StringLaws.{str_answered}
 use Rattle.names.specs.Names.{name_string, name_string_offset}
 use Rattle.index_query.specs.Candidates.{candidates_from, candidates_at}
@@ -58,32 +58,20 @@ same_test (a ∷ rest) = rw (eq-eqb a a refl) (same_test rest)
 pub same_exactly : SameExactly
 same_exactly a b = (test-same a b, λ e. rw e (same_test b))
 
-module _ (strs text : List ℕ) (at : ℕ) where
-  -- what is left to compare from position k on
-  abbrev pub same_from : ℕ → Bool
-  same_from k = same_bytes (take (length text - k) (drop (at + k) strs)) (drop k text)
-
-  pub same_start : same_bytes (take (length text) (drop at strs)) text ≡ same_from 0
-  same_start =
-      let all : length text - 0 ≡ length text = omega arith in
-      let here : at + 0 ≡ at = omega arith in
-      rw (all, here)
-
-  pub same_step : (k : ℕ) → k < length text → at + length text ≤ length strs → same_from k ≡ cond (eqb (get_or strs (at + k) 0) (get_or text k 0)) (same_from (k + 1)) false
-  unfolding same_bytes
-  same_step k below inside =
-      let one : length text - k ≡ suc (length text - suc k) = omega arith in
-      let next : at + suc k ≡ suc (at + k) = omega arith in
-      rw (add-one k, one, next, drop-cons strs (at + k) 0 (omega arith), drop-cons text k 0 below)
-
-  pub same_end : (k : ℕ) → length text ≤ k → same_from k ≡ true
-  unfolding same_bytes
-  same_end k past =
-      let none_left : length text - k ≡ 0 = omega arith in
-      rw (none_left, drop_of_length-le text past)
+-- the library's test of two slices is that test, too
+pub same_pointwise : (a b : List ℕ) → pointwise nat_eq a b ≡ same_bytes a b
+unfolding same_bytes
+same_pointwise [] [] = refl
+same_pointwise [] (b ∷ bs) = refl
+same_pointwise (a ∷ rest) [] = refl
+same_pointwise (a ∷ rest) (b ∷ bs) = tested (eqb a b) (same_pointwise rest bs)
+  where
+    tested : (t : Bool) → pointwise nat_eq rest bs ≡ same_bytes rest bs → (t && pointwise nat_eq rest bs) ≡ cond t (same_bytes rest bs) false
+    tested true e = e
+    tested false e = refl
 
 -- a name's string lies inside .debug_str
-pub string_inside : (order : RunTimeEndian) (s strs : List ℕ) (i : NameIndex) (name : NameTableIndex) (t : Text) → name_string order s strs i name ≡ answered t → t.start + t.len < length strs
+pub string_inside : (order : RunTimeEndian) (s strs : List ℕ) (i : NameIndex) (name : NameTableIndex) (t : Str) → name_string order s strs i name ≡ answered t → t.start + t.len < length strs
 unfolding name_string
 string_inside order s strs i name t e =
     let (u, short, e₁) = then_answered (refuse_if (ltb longest (length s)) 13 0) _ t e in
@@ -92,10 +80,10 @@ string_inside order s strs i name t e =
     let (begins, long, inside) = str_answered strs offset.0 t e₃ in
     inside
 
--- the string of a name is another where it has another length, and else it is compared byte by byte
-pub text-other : (order : RunTimeEndian) (s strs : List ℕ) (i : NameIndex) (name : NameTableIndex) (t : Text) (text : List ℕ) → name_string order s strs i name ≡ answered t → (t.len ≡ length text → ⊥) → text_is strs text t ≡ false
+-- the string of a name is another where it has another length
+pub text_other : (order : RunTimeEndian) (s strs : List ℕ) (i : NameIndex) (name : NameTableIndex) (t : Str) (text : List ℕ) → name_string order s strs i name ≡ answered t → (t.len ≡ length text → ⊥) → text_is strs text t ≡ false
 unfolding text_is
-text-other order s strs i name t text e other =
+text_other order s strs i name t text e other =
     let inside = string_inside order s strs i name t e in
     let long : length (take t.len (drop t.start strs)) ≡ t.len = omega (arith, length-take t.len (drop t.start strs), length-drop t.start strs) in
     other_length (take t.len (drop t.start strs)) text (λ h. other (sym long ∙ h))
@@ -111,6 +99,19 @@ module _ (order : RunTimeEndian) (s strs : List ℕ) (i : NameIndex) (hash : ℕ
   matches_name from after name e =
       let (p, fits, rest) = then_answered (fitted s i) _ (name ∷ candidates_from order s i hash after) (sym e) in
       rw (sym e, fits)
+
+  -- so where its string is the name, where it is another, and where it cannot be read
+  pub name_found : (from after name : ℕ) → answered (name ∷ candidates_from order s i hash after) ≡ candidates_at order s i hash from → answered true ≡ name_matches order s strs i text name
+      → matches_at order s strs i hash text from ≡ item name (matches_at order s strs i hash text after)
+  name_found from after name e holds = rw (matches_name from after name e, sym holds)
+
+  pub name_passed : (from after name : ℕ) → answered (name ∷ candidates_from order s i hash after) ≡ candidates_at order s i hash from → answered false ≡ name_matches order s strs i text name
+      → matches_at order s strs i hash text from ≡ matches_at order s strs i hash text after
+  name_passed from after name e holds = rw (matches_name from after name e, sym holds)
+
+  pub name_refused : (from after name n v : ℕ) → answered (name ∷ candidates_from order s i hash after) ≡ candidates_at order s i hash from → refused n v ≡ name_matches order s strs i text name
+      → matches_at order s strs i hash text from ≡ broken n v
+  name_refused from after name n v e holds = rw (matches_name from after name e, sym holds)
 
   pub matches_none : (from : ℕ) → answered [] ≡ candidates_at order s i hash from → matches_at order s strs i hash text from ≡ ended
   unfolding matches_at matching

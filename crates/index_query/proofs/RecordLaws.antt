@@ -3,7 +3,7 @@ use Prim.Native.Nat.{ℕ, zero, suc, ◌+◌, ◌-◌, ◌*◌, ◌^◌, ◌≤�
 use mathlib.Core.Path.{◌≡◌, refl, sym, ap, ◌∙◌}
 use mathlib.Core.Bool.{Bool, true, false, cond}
 use mathlib.Core.List.{List, [], ◌∷◌}
-use mathlib.Core.Option.{Option, some, none}
+use Rattle.std.specs.Prelude.{Option, Some, None}
 use native.Mathlib.Omega.{arith}
 use native.Mathlib.Nat.{suc-mul, mul-le-mul_right}
 use lib.ListN.{length}
@@ -48,14 +48,14 @@ unfolding longest
 places_small = omega arith
 
 -- and one whose index fits is within it
-pub short-fits : (s : List ℕ) (i : NameIndex) (p : Parts) → answered p ≡ fitted s i → length s ≤ longest
-short-fits s i p given =
+pub short_fits : (s : List ℕ) (i : NameIndex) (p : Parts) → answered p ≡ fitted s i → length s ≤ longest
+short_fits s i p given =
     let (short, fits, same) = fitted-answered s i p (sym given) in
     short
 
 -- where bytes are left at a place, it lies inside the section
-pub left-inside : (s : List ℕ) (at end : ℕ) → eqb (left_at s at end) 0 ≡ false → at < length s
-left-inside s at end e =
+pub left_inside : (s : List ℕ) (at end : ℕ) → eqb (left_at s at end) 0 ≡ false → at < length s
+left_inside s at end e =
     let some_left = eqb-false (left_at s at end) 0 e in
     past (left_at s at end) refl some_left
   where
@@ -78,8 +78,8 @@ candidates_fit order s i hash names e =
 module _ (order : RunTimeEndian) (s : List ℕ) (offset : ℕ) (i : NameIndex) where
   -- what follows from an entry that was read at a place: its record, and those of the entries past it
   unfoldable pub entry_after : Parts → ℕ → ℕ → Outcome (Option WholeEntry) → Listing Record
-  entry_after p name at (answered none) = ended
-  entry_after p name at (answered (some w)) =
+  entry_after p name at (answered None) = ended
+  entry_after p name at (answered (Some w)) =
       or_broken (entry_record order s i (record { index = offset; name = name; entry = at - p.entry_pool }) w.tag w.facts) λ r. item r (entry_records order s offset i p name w.next)
   entry_after p name at (refused n v) = broken n v
 
@@ -89,10 +89,10 @@ module _ (order : RunTimeEndian) (s : List ℕ) (offset : ℕ) (i : NameIndex) w
   entry_records_step p name at = rw (series_step order s p at) (tested (eqb (left_at s at p.end) 0) (entry order s p at) refl)
     where
       tested : (t : Bool) (o : Outcome (Option Entry)) → entry order s p at ≡ o
-          → shown_by (record_of_entry order s offset i name) (listed (cond t (answered none) o) λ e. entries_from order s p e.next) ≡ cond t ended (entry_after p name at (o >>= λ e. answered (whole_of e)))
+          → shown_by (record_of_entry order s offset i name) (listed (cond t (answered None) o) λ e. entries_from order s p e.next) ≡ cond t ended (entry_after p name at (o >>= λ e. answered (whole_of e)))
       tested true o read = refl
-      tested false (answered none) read = refl
-      tested false (answered (some e)) read = rw (entry-offset order s p at e read)
+      tested false (answered None) read = refl
+      tested false (answered (Some e)) read = rw (entry-offset order s p at e read)
       tested false (refused n v) read = refl
 
   -- at the pool's end there are none
@@ -123,10 +123,10 @@ module _ (order : RunTimeEndian) (s : List ℕ) (offset : ℕ) (i : NameIndex) w
 
 module _ (order : RunTimeEndian) (s strs : List ℕ) (hash : ℕ) (text : List ℕ) (offset : ℕ) (i : NameIndex) where
   -- what a cursor has left, where the index fits
-  pub left-fits : (p : Parts) (c : IndexIter) → answered p ≡ fitted s i
+  pub left_fits : (p : Parts) (c : IndexIter) → answered p ≡ fitted s i
       → index_left order s strs hash text offset i c ≡ followed_by (entry_records order s offset i p c.name.0 c.at) (records_at order s strs hash text offset i c.next)
   unfolding index_left
-  left-fits p c given = rw (sym given)
+  left_fits p c given = rw (sym given)
 
   -- before the first record nothing is read yet
   pub start_left_lem : (from : ℕ) (c : IndexIter) → c.at ≡ i.end → c.next ≡ from → answered (candidates_from order s i hash from) ≡ candidates order s i hash
@@ -136,13 +136,13 @@ module _ (order : RunTimeEndian) (s strs : List ℕ) (hash : ℕ) (text : List �
       let (p, fits) = candidates_fit order s i hash (candidates_from order s i hash from) (sym given) in
       let (short, inside, same) = fitted-answered s i p fits in
       let end : c.at ≡ p.end = at ∙ sym (pool_end i) ∙ ap (λ q. q.end) (sym same) in
-      rw (left-fits p c (sym fits), end, records-ended order s offset i p c.name.0, next, sym given, fits)
+      rw (left_fits p c (sym fits), end, records-ended order s offset i p c.name.0, next, sym given, fits)
 
   -- Where no entry is left of a cursor's series, the next name that matches decides: none does;
   module _ (p : Parts) (c : IndexIter) (given : answered p ≡ fitted s i) (over : ended ≡ entry_records order s offset i p c.name.0 c.at) where
     left_over : index_left order s strs hash text offset i c ≡ records_at order s strs hash text offset i c.next
     unfolding followed_by
-    left_over = left-fits p c given ∙ rw (sym over)
+    left_over = left_fits p c given ∙ rw (sym over)
 
     pub none_left : ended ≡ matches_at order s strs i hash text c.next → index_left order s strs hash text offset i c ≡ ended
     unfolding records_at all_series
@@ -159,14 +159,14 @@ module _ (order : RunTimeEndian) (s strs : List ℕ) (hash : ℕ) (text : List �
       next-name = left_over ∙ rw (sym found)
 
       -- its series begins there;
-      pub next-series : (first : NameEntryIter) → answered first ≡ name_entries order s i name
+      pub next_series : (first : NameEntryIter) → answered first ≡ name_entries order s i name
           → index_left order s strs hash text offset i c ≡ index_left order s strs hash text offset i (record { name = name; at = first.at; next = after })
-      next-series first e = next-name ∙ rw (series-from order s offset i p name first given e) (sym (left-fits p (record { name = name; at = first.at; next = after }) given))
+      next_series first e = next-name ∙ rw (series-from order s offset i p name first given e) (sym (left_fits p (record { name = name; at = first.at; next = after }) given))
 
       -- or it has no beginning
-      pub series-refused : (n v : ℕ) → refused n v ≡ name_entries order s i name → index_left order s strs hash text offset i c ≡ broken n v
+      pub series_refused : (n v : ℕ) → refused n v ≡ name_entries order s i name → index_left order s strs hash text offset i c ≡ broken n v
       unfolding followed_by
-      series-refused n v e = next-name ∙ rw (series-broken order s offset i name n v e)
+      series_refused n v e = next-name ∙ rw (series-broken order s offset i name n v e)
 
 -- after a name that matches there is one fewer
 pub fewer_matches : (order : RunTimeEndian) (s strs : List ℕ) (i : NameIndex) (hash : ℕ) (text : List ℕ) (from after : ℕ) (name : NameTableIndex)

@@ -5,7 +5,7 @@ use Rattle.reader.specs.Outcome.{Outcome, answered, ◌>>=◌}
 use Rattle.reader.specs.Listing.{Listing, ended, item, or_broken}
 use Rattle.reader.specs.declared.endianity.RunTimeEndian.{RunTimeEndian}
 use Rattle.index.specs.declared.layout.NameIndex.{NameIndex}
-use Rattle.strings.specs.Strings.{Text}
+use Rattle.strings.specs.declared.Str.{Str}
 use Rattle.names.specs.Names.{name_string}
 
 -- whether two lists of bytes are the same
@@ -16,7 +16,7 @@ same_bytes (a ∷ rest) [] = false
 same_bytes (a ∷ rest) (b ∷ bs) = cond (eqb a b) (same_bytes rest bs) false
 
 -- whether the bytes of a string are those
-unfoldable pub text_is : List ℕ → List ℕ → Text → Bool
+unfoldable pub text_is : List ℕ → List ℕ → Str → Bool
 text_is strs text t = same_bytes (take t.len (drop t.start strs)) text
 
 -- whether the string of a name is the one that is asked for; a string that cannot be read is refused

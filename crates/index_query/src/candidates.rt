@@ -1,79 +1,62 @@
 // The candidates of a hash in an index: the names that `find_by_hash` lists up to the first end; without a hash table all names. A number
 // stands for the candidates from that name on.
+// (order, section, index) stay parameters: with a struct that lends the section, contracts are no plainer (docs/DECISIONS.md).
 ghost use Rattle.std.specs.Prelude.{◌≡◌};
-ghost use Rattle.index_query.specs.Candidates.{candidates, candidates_at};
-ghost use Rattle.index_query.specs.Answers.{first_left, candidate_left};
+ghost use Rattle.reader.specs.Answers.{outcome_as};
+ghost use Rattle.index_query.specs.Candidates.{candidates, candidates_from, candidates_at};
+ghost use Rattle.index_query.specs.Answers.{candidates_left};
 
-use hashes::{FirstName, Found, bucket_of, first_name, pass_over};
-use index::{NameIndex, PartsRead, fit};
+use hashes::{bucket_of, first_name, pass_over};
+use index::{NameIndex, fit};
 use reader::{Error, NameTableIndex, RunTimeEndian};
 
-// The number of the name from which on the candidates are looked for.
+// A candidate, with the number from which on the next is looked for. (`Found` of `hashes` may hold no name; here that is the `None` of the answer.)
 #[derive(Clone, Copy)]
-pub enum FirstCandidate {
-    From(u32),
-    Refused(Error),
-}
-
-// The next candidate, with the number after it.
-#[derive(Clone, Copy)]
-pub enum Candidate {
-    Name(NameTableIndex, u32),
-    End,
-    Refused(Error),
+pub struct Candidate {
+    pub name: NameTableIndex,
+    pub next: u32,
 }
 
 // Where the candidates of a hash begin.
+#[tactic(auto, using(crate::proofs::CandidateLaws::all_names, crate::proofs::CandidateLaws::first_from), unfolding(crate::specs::Candidates::candidates, hashes::specs::Lookups::find_by_hash, hashes::specs::Lookups::find_by_bucket))]
 pub fn first_candidate(
     order: RunTimeEndian,
     section: &[u8],
     index: NameIndex,
     hash: u32,
-) -> FirstCandidate
-    ensures { first_left order section.now index hash result ≡ candidates order section.now index hash }
+) -> Result<u32, Error>
+    ensures { outcome_as (candidates_from order section.now index hash) result ≡ candidates order section.now index hash }
 {
-    let p = match fit(section, index) {
-        PartsRead::Value(p) => p,
-        PartsRead::Refused(e) => return FirstCandidate::Refused(e),
-    };
+    let p = fit(section, index)?;
     if index.bucket_count == 0 {
-        return FirstCandidate::From(0);
+        return Ok(0);
     }
-    match first_name(
-        order,
-        section,
-        p.bucket_data,
-        p.hash_table_data,
-        p.name_table_data,
-        bucket_of(index, hash),
-    ) {
-        FirstName::None => FirstCandidate::From(index.name_count),
-        FirstName::Some(first) => FirstCandidate::From(first),
-        FirstName::Refused(e) => FirstCandidate::Refused(e),
-    }
+    let first = first_name(order, section, p, bucket_of(index, hash))?;
+    Ok(first.unwrap_or(index.name_count))
 }
 
 // The first candidate from a number on.
+#[tactic(auto, using(crate::proofs::CandidateLaws::no_name, crate::proofs::CandidateLaws::next_name, crate::proofs::CandidateLaws::stored_name, crate::proofs::CandidateLaws::stored_none, crate::proofs::CandidateLaws::has_buckets, hashes::proofs::TableLaws::hashes_within), unfolding(crate::specs::Candidates::candidates_at))]
 pub fn next_candidate(
     order: RunTimeEndian,
     section: &[u8],
     index: NameIndex,
     hash: u32,
     from: u32,
-) -> Candidate
-    ensures { candidate_left order section.now index hash result ≡ candidates_at order section.now index hash from }
+) -> Result<Option<Candidate>, Error>
+    ensures { outcome_as (candidates_left order section.now index hash) result ≡ candidates_at order section.now index hash from }
 {
-    let p = match fit(section, index) {
-        PartsRead::Value(p) => p,
-        PartsRead::Refused(e) => return Candidate::Refused(e),
-    };
+    let p = fit(section, index)?;
     if index.bucket_count == 0 {
         if index.name_count <= from {
-            return Candidate::End;
+            return Ok(None);
         }
-        return Candidate::Name(NameTableIndex(from), from + 1);
+        return Ok(Some(Candidate {
+            name: NameTableIndex(from),
+            next: from + 1,
+        }));
     }
-    match pass_over(
+    let found = pass_over(
         order,
         section,
         index,
@@ -81,8 +64,11 @@ pub fn next_candidate(
         bucket_of(index, hash),
         hash,
         from,
-    ) {
-        Found::Name(name, next) => Candidate::Name(NameTableIndex(name), next),
-        Found::End(_) => Candidate::End,
-    }
+    );
+    Ok(
+        found.name.map(|name| Candidate {
+            name: NameTableIndex(name),
+            next: found.next,
+        }),
+    )
 }

@@ -6,6 +6,6 @@ pub mod candidates; // the names to look at
 pub mod matching; // those of them whose string is the name
 pub mod series; // the records of a series, and of the index
 
-pub use candidates::{Candidate, FirstCandidate, first_candidate, next_candidate};
-pub use matching::{Match, MatchStep, name_matches, next_match};
-pub use series::{IndexIter, IndexStep, StartRead, start};
+pub use candidates::{Candidate, first_candidate, next_candidate};
+pub use matching::{name_matches, next_match};
+pub use series::{IndexIter, start};

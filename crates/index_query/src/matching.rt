@@ -1,47 +1,19 @@
 // The candidates that match: those whose string is the name that is asked for, byte for byte.
-ghost use Rattle.std.specs.Prelude.{◌≡◌, ◌+◌, ◌≤◌, length, take, drop};
-ghost use Rattle.index_query.specs.Matching.{same_bytes, name_matches};
+// (order, section, strings, hash, name) stay parameters: with a struct that lends slices, contracts are no plainer (docs/DECISIONS.md).
+ghost use Rattle.std.specs.Prelude.{◌≡◌};
+ghost use Rattle.reader.specs.Answers.{outcome};
+ghost use Rattle.reader.specs.Listing.{left_by};
+ghost use Rattle.index_query.specs.Matching.{name_matches};
 ghost use Rattle.index_query.specs.Records.{matches_at};
-ghost use Rattle.index_query.specs.Answers.{match_outcome, match_left};
+ghost use Rattle.index_query.specs.Answers.{matches_left};
 
 use crate::candidates::{Candidate, next_candidate};
 use index::NameIndex;
 use names::name_string;
 use reader::{Error, NameTableIndex, RunTimeEndian};
-use strings::StrRead;
-
-// Whether a name's string is the one that is asked for.
-#[derive(Clone, Copy)]
-pub enum Match {
-    Yes,
-    No,
-    Refused(Error),
-}
-
-// The next name that matches, with the number from which on the candidates after it are looked for.
-#[derive(Clone, Copy)]
-pub enum MatchStep {
-    Name(NameTableIndex, u32),
-    End,
-    Refused(Error),
-}
-
-// Whether the bytes of the name stand at a place of .debug_str.
-fn same_at(strings: &[u8], at: usize, name: &[u8]) -> bool
-    requires { at + length name.now ≤ length strings.now }
-    ensures { result ≡ same_bytes (take (length name.now) (drop at strings.now)) name.now }
-{
-    let mut k: usize = 0;
-    while k < name.len() {
-        if strings[at + k] != name[k] {
-            return false;
-        }
-        k = k + 1;
-    }
-    true
-}
 
 // Whether the string of a name of the index is `name`. A string that cannot be read is refused.
+#[tactic(auto, using(crate::proofs::MatchLaws::string_inside, crate::proofs::MatchLaws::text_other, crate::proofs::MatchLaws::same_pointwise), unfolding(crate::specs::Matching::name_matches, crate::specs::Matching::text_is))]
 pub fn name_matches(
     order: RunTimeEndian,
     section: &[u8],
@@ -49,23 +21,18 @@ pub fn name_matches(
     index: NameIndex,
     candidate: NameTableIndex,
     name: &[u8],
-) -> Match
-    ensures { match_outcome result ≡ name_matches order section.now strings.now index name.now candidate.0 }
+) -> Result<bool, Error>
+    ensures { outcome result ≡ name_matches order section.now strings.now index name.now candidate.0 }
 {
-    let string = match name_string(order, section, strings, index, candidate) {
-        StrRead::Value(t) => t,
-        StrRead::Refused(e) => return Match::Refused(e),
-    };
+    let string = name_string(order, section, strings, index, candidate)?;
     if string.len != name.len() {
-        return Match::No;
+        return Ok(false);
     }
-    if same_at(strings, string.start, name) {
-        return Match::Yes;
-    }
-    Match::No
+    Ok(&strings[string.start..string.start + string.len] == name)
 }
 
 // The first name that matches among the candidates from a number on.
+#[tactic(auto, using(crate::proofs::MatchLaws::name_found, crate::proofs::MatchLaws::name_passed, crate::proofs::MatchLaws::name_refused, crate::proofs::MatchLaws::matches_none, crate::proofs::MatchLaws::matches_refused, crate::proofs::MatchLaws::fewer_left))]
 pub fn next_match(
     order: RunTimeEndian,
     section: &[u8],
@@ -74,21 +41,17 @@ pub fn next_match(
     hash: u32,
     name: &[u8],
     from: u32,
-) -> MatchStep
-    ensures { match_left order section.now strings.now index hash name.now result ≡ matches_at order section.now strings.now index hash name.now from }
+) -> Result<Option<Candidate>, Error>
+    ensures { left_by result (matches_left order section.now strings.now index hash name.now) ≡ matches_at order section.now strings.now index hash name.now from }
 {
     let mut at = from;
     loop {
-        match next_candidate(order, section, index, hash, at) {
-            Candidate::Name(candidate, after) => {
-                match name_matches(order, section, strings, index, candidate, name) {
-                    Match::Yes => return MatchStep::Name(candidate, after),
-                    Match::No => at = after,
-                    Match::Refused(e) => return MatchStep::Refused(e),
-                }
-            }
-            Candidate::End => return MatchStep::End,
-            Candidate::Refused(e) => return MatchStep::Refused(e),
+        let Some(candidate) = next_candidate(order, section, index, hash, at)? else {
+            return Ok(None);
+        };
+        if name_matches(order, section, strings, index, candidate.name, name)? {
+            return Ok(Some(candidate));
         }
+        at = candidate.next;
     }
 }

@@ -1,15 +1,18 @@
 // The records of an index: for each name that matches, those of its series, one after another.
-ghost use Rattle.std.specs.Prelude.{◌≡◌, ℕ, ◌-◌, ◌≤◌, List, length};
+// (order, section, strings, hash, name) stay parameters: with a struct that lends slices, contracts are no plainer (docs/DECISIONS.md).
+ghost use Rattle.std.specs.Prelude.{◌≡◌, ℕ, ◌≤◌, List, length};
 ghost use Rattle.reader.specs.Errors.{longest};
 ghost use Rattle.index_query.specs.Records.{entry_records, index_records, index_left};
-ghost use Rattle.index_query.specs.Answers.{pool_left, start_left, step_left};
+ghost use Rattle.reader.specs.Answers.{outcome};
+ghost use Rattle.reader.specs.Listing.{item, or_broken, left_by};
+ghost use Rattle.index_query.specs.Answers.{entry_left};
 
-use crate::candidates::{FirstCandidate, first_candidate};
-use crate::matching::{MatchStep, next_match};
-use entries::{EntriesRead, PoolRead, name_entries, read_entry};
-use index::{NameIndex, Parts, PartsRead, fit};
-use reader::{Error, NameTableIndex, RunTimeEndian, is_empty};
-use records::{Record, RecordRead, entry_record};
+use crate::candidates::first_candidate;
+use crate::matching::next_match;
+use entries::{name_entries, read_entry};
+use index::{NameIndex, Parts, fit};
+use reader::{Error, NameTableIndex, Read, RunTimeEndian, is_empty};
+use records::{Record, entry_record};
 
 // A cursor over the records of an index: the name whose series is being read, the place of its next entry, and the number from which on the
 // candidates after it are looked for. Any cursor is legal.
@@ -20,40 +23,9 @@ pub struct IndexIter {
     pub next: u32,
 }
 
-// The cursor before the first record.
-#[derive(Clone, Copy)]
-pub enum StartRead {
-    Value(IndexIter),
-    Refused(Error),
-}
-
-// What a step answers: a record, with the cursor after it; the end; or a refusal.
-#[derive(Clone, Copy)]
-pub enum IndexStep {
-    Record(Record, IndexIter),
-    End,
-    Refused(Error),
-}
-
-// What stands at a place of the pool: the record of the entry there, with the place past it, or the end of the series.
-#[derive(Clone, Copy)]
-pub enum PoolRecord {
-    Record(Record, usize),
-    End,
-    Refused(Error),
-}
-
-// How far a place lies past the pool's start; 0 before it.
-fn past(pool: usize, at: usize) -> usize
-    ensures { result ≡ at - pool }
-{
-    if at < pool {
-        return 0;
-    }
-    at - pool
-}
-
-// The record of the entry at a place of the pool. The index lies at `offset` in the section.
+// The record of the entry at a place of the pool, with the place past it; none where the series ends. The index lies at `offset` in the
+// section.
+#[tactic(auto, using(crate::proofs::RecordLaws::entry_records_step, crate::proofs::RecordLaws::left_inside, crate::proofs::RecordLaws::places_small), unfolding(crate::proofs::RecordLaws::entry_after))]
 fn pool_record(
     order: RunTimeEndian,
     section: &[u8],
@@ -62,44 +34,47 @@ fn pool_record(
     p: Parts,
     name: NameTableIndex,
     at: usize,
-) -> PoolRecord
+) -> Result<Option<Read<Record>>, Error>
     requires { length section.now ≤ longest }
-    ensures { pool_left order section.now offset index p name.0 result ≡ entry_records order section.now offset index p name.0 at }
+    ensures { left_by result (entry_left order section.now offset index p name.0) ≡ entry_records order section.now offset index p name.0 at }
 {
     if is_empty(section, at, p.end) {
-        return PoolRecord::End;
+        return Ok(None);
     }
-    let w = match read_entry(order, section, p, at) {
-        PoolRead::Entry(w) => w,
-        PoolRead::End => return PoolRecord::End,
-        PoolRead::Refused(e) => return PoolRecord::Refused(e),
+    let Some(w) = read_entry(order, section, p, at)? else {
+        return Ok(None);
     };
-    let facts = w.facts;
-    let entry = past(p.entry_pool, at) as u32;
-    match entry_record(order, section, index, offset, name, entry, w.tag, facts) {
-        RecordRead::Value(r) => PoolRecord::Record(r, w.next),
-        RecordRead::Refused(e) => PoolRecord::Refused(e),
-    }
+    let entry = at.saturating_sub(p.entry_pool) as u32;
+    let record = entry_record(order, section, index, offset, name, entry, w.tag, w.facts)?;
+    Ok(Some(Read {
+        value: record,
+        next: w.next,
+    }))
 }
 
 // The cursor before the first record of an index: no series is being read.
-pub fn start(order: RunTimeEndian, section: &[u8], index: NameIndex, hash: u32) -> StartRead
-    ensures { (strings name : List ℕ) (offset : ℕ) → start_left order section.now strings hash name offset index result ≡ index_records order section.now strings hash name offset index }
+#[tactic(auto, using(crate::proofs::RecordLaws::start_left_lem), unfolding(crate::specs::Records::index_records))]
+pub fn start(
+    order: RunTimeEndian,
+    section: &[u8],
+    index: NameIndex,
+    hash: u32,
+) -> Result<IndexIter, Error>
+    ensures { (strings name : List ℕ) (offset : ℕ) → or_broken (outcome result) (index_left order section.now strings hash name offset index) ≡ index_records order section.now strings hash name offset index }
 {
-    match first_candidate(order, section, index, hash) {
-        FirstCandidate::From(from) => StartRead::Value(IndexIter {
-            name: NameTableIndex(0),
-            at: index.end,
-            next: from,
-        }),
-        FirstCandidate::Refused(e) => StartRead::Refused(e),
-    }
+    let next = first_candidate(order, section, index, hash)?;
+    Ok(IndexIter {
+        name: NameTableIndex(0),
+        at: index.end,
+        next,
+    })
 }
 
 impl IndexIter {
-    // The next record of the index, which lies at `offset` in the section.
+    // The next record of the index, which lies at `offset` in the section. After an end or a refusal the cursor is worth nothing.
+    #[tactic(auto, using(crate::proofs::RecordLaws::short_fits, crate::proofs::RecordLaws::left_fits, crate::proofs::RecordLaws::next_series, crate::proofs::RecordLaws::series_refused, crate::proofs::RecordLaws::none_left, crate::proofs::RecordLaws::match_refused, crate::proofs::RecordLaws::fewer_matches), unfolding(crate::specs::Records::index_left, reader::specs::Listing::followed_by))]
     pub fn next(
-        self,
+        &mut self,
         order: RunTimeEndian,
         section: &[u8],
         strings: &[u8],
@@ -107,46 +82,27 @@ impl IndexIter {
         name: &[u8],
         offset: u32,
         index: NameIndex,
-    ) -> IndexStep
-        ensures { step_left order section.now strings.now hash name.now offset index result ≡ index_left order section.now strings.now hash name.now offset index self }
+    ) -> Result<Option<Record>, Error>
+        ensures { left_by result (λ r. item r (index_left order section.now strings.now hash name.now offset index self.new)) ≡ index_left order section.now strings.now hash name.now offset index self.old }
     {
-        let p = match fit(section, index) {
-            PartsRead::Value(p) => p,
-            PartsRead::Refused(e) => return IndexStep::Refused(e),
-        };
-        let mut c = self;
+        let p = fit(section, index)?;
         loop {
-            let current = c.name;
-            match pool_record(order, section, offset, index, p, current, c.at) {
-                PoolRecord::Record(r, after) => {
-                    return IndexStep::Record(
-                        r,
-                        IndexIter {
-                            name: current,
-                            at: after,
-                            next: c.next,
-                        },
-                    )
-                }
-                PoolRecord::End => (),
-                PoolRecord::Refused(e) => return IndexStep::Refused(e),
+            if let Some(record) = pool_record(
+                order, section, offset, index, p, self.name, self.at,
+            )? {
+                self.at = record.next;
+                return Ok(Some(record.value));
             }
-            match next_match(order, section, strings, index, hash, name, c.next) {
-                MatchStep::Name(found, after) => {
-                    match name_entries(order, section, index, found) {
-                        EntriesRead::Value(first) => {
-                            c = IndexIter {
-                                name: found,
-                                at: first.at,
-                                next: after,
-                            }
-                        }
-                        EntriesRead::Refused(e) => return IndexStep::Refused(e),
-                    }
-                }
-                MatchStep::End => return IndexStep::End,
-                MatchStep::Refused(e) => return IndexStep::Refused(e),
-            }
+            let Some(found) = next_match(order, section, strings, index, hash, name, self.next)?
+            else {
+                return Ok(None);
+            };
+            let first = name_entries(order, section, index, found.name)?;
+            *self = IndexIter {
+                name: found.name,
+                at: first.at,
+                next: found.next,
+            };
         }
     }
 }

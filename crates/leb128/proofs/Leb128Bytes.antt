@@ -10,7 +10,7 @@ use lib.Seq.{slice}
 use lib.Dec.{leb, ltb}
 use borrow.Author.Tests.{le-leb, lt-leb, lt-ltb, le-ltb, ltb-true, ltb-false}
 use Rattle.reader.specs.Outcome.{Outcome, answered, refused, ◌>>=◌}
-use Rattle.reader.specs.Numbers.{Read}
+use Rattle.reader.specs.declared.reader.Read.{Read}
 use Rattle.leb128.specs.Leb128.{number_bytes, complete, base128, number_of_bytes, leb128}
 use Rattle.leb128.specs.Sanity.{beyond, some_beyond, BeyondTheWidth, BitsLeft, byte_by_byte, ByteByByte, gimli_of_bytes, gimli_leb128, GimliReadsTheSame, UnsignedAsGimli, U16AsGimli, AsGimliSupposes, PaddedComputed}
 use Rattle.leb128.proofs.Leb128Laws.{width_zero, width_wide, width_step, prefixed, number-byte, number_none, scaled, scaled-start, scaled-more}
@@ -55,7 +55,7 @@ byte_by_byte_from bits i value (b ∷ bs) at =
     rw (number-byte (bits - 7 * i) b bs at _ _ refl refl, left, ← bits_left bits i b)
     (through (beyond bits i b) (ltb b 128) refl (number_of_bytes (bits - 7 * suc i) (number_bytes bs) (at + 1)) (byte_by_byte_from bits (suc i) (value + 128 ^ i * (b % 128)) bs (at + 1)))
   where
-    through : (t u : Bool) → ltb b 128 ≡ u → (rest : Outcome Read)
+    through : (t u : Bool) → ltb b 128 ≡ u → (rest : Outcome (Read ℕ))
         → scaled (value + 128 ^ i * (b % 128)) (128 ^ suc i) rest ≡ byte_by_byte bits (suc i) (value + 128 ^ i * (b % 128)) bs (at + 1)
         → scaled value (128 ^ i) (cond t (refused 7 0) (cond u (answered (record { value = b; next = at + 1 })) (rest >>= λ r. answered (prefixed b r))))
         ≡ cond t (refused 7 0) (cond u (answered (record { value = value + 128 ^ i * (b % 128); next = at + 1 })) (byte_by_byte bits (suc i) (value + 128 ^ i * (b % 128)) bs (at + 1)))

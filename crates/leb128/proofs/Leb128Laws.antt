@@ -12,12 +12,13 @@ use lib.Pow.{pow-add}
 use borrow.Author.Tests.{leb-true, leb-false, le-leb, lt-leb, lt-ltb, le-ltb, ltb-true}
 use Rattle.reader.specs.Outcome.{Outcome, answered, refused, ◌>>=◌, ◌>>◌, demand, refuse_if}
 use Rattle.reader.specs.Parts.{left_at}
-use Rattle.reader.specs.Numbers.{Read, read_byte}
+use Rattle.reader.specs.Numbers.{read_byte}
+use Rattle.reader.specs.declared.reader.Read.{Read}
 use Rattle.leb128.specs.Leb128.{number_bytes, complete, base128, number_of_bytes, leb128, encoded_in, encoded, padded}
 use Rattle.leb128.specs.Sanity.{Leb128Forward, Leb128InPart, Leb128Below, Leb128ReadsBack, Writes}
 use Rattle.reader.proofs.OutcomeLaws.{then_answered, demanded, passed, same_answer}
 use Rattle.reader.proofs.PartLaws.{left_is_length, slice_first, slice_none}
-use Rattle.reader.proofs.NumberLaws.{byte_read, byte-missing}
+use Rattle.reader.proofs.NumberLaws.{byte_read, byte_missing}
 
 powers_above : (bits : ℕ) → 1 ≤ 2 ^ bits
 powers_above bits = one-le-pow bits 2 (omega arith)
@@ -65,23 +66,23 @@ width_step bits x rest low = go (leb 7 bits) refl
         rw none (narrow h _ refl _ refl)
 
 -- the number r, unless a bit beyond the width is set or its last byte is missing
-abbrev finished : Bool → Bool → Read → Outcome Read
+abbrev finished : Bool → Bool → Read ℕ → Outcome (Read ℕ)
 finished bad whole r = do
   refuse_if bad 7 0
   demand whole 1 r.next
   answered r
 
 -- the number r after one more byte in front, which is not its last
-abbrev pub prefixed : ℕ → Read → Read
+abbrev pub prefixed : ℕ → Read ℕ → Read ℕ
 prefixed b r = record { value = b % 128 + 128 * r.value; next = r.next }
 
-finished-prefixed : (bad whole : Bool) (b : ℕ) (r : Read) → finished bad whole (prefixed b r) ≡ (finished bad whole r >>= λ rest. answered (prefixed b rest))
+finished-prefixed : (bad whole : Bool) (b : ℕ) (r : Read ℕ) → finished bad whole (prefixed b r) ≡ (finished bad whole r >>= λ rest. answered (prefixed b rest))
 finished-prefixed true whole b r = refl
 finished-prefixed false true b r = refl
 finished-prefixed false false b r = refl
 
 -- the number that begins with the byte b, and what follows it
-abbrev pub with_byte : ℕ → Read → Outcome Read → Outcome Read
+abbrev pub with_byte : ℕ → Read ℕ → Outcome (Read ℕ) → Outcome (Read ℕ)
 with_byte bits b rest = cond (leb (2 ^ bits) (b.value % 128)) (refused 7 0) (cond (ltb b.value 128) (answered b) (rest >>= λ r. answered (prefixed b.value r)))
 
 -- one byte more in front of a number, by the two tests on it
@@ -104,7 +105,7 @@ number_none bits at =
     rw (width_zero bits, place)
 
 -- a number is a last byte, or a byte and what follows it, for which seven bits less are left
-unfoldable pub leb128_step : ℕ → List ℕ → ℕ → ℕ → Outcome Read
+unfoldable pub leb128_step : ℕ → List ℕ → ℕ → ℕ → Outcome (Read ℕ)
 leb128_step bits s at end = do
   b ← read_byte s at end
   with_byte bits b (leb128 (bits - 7) s b.next end)
@@ -119,12 +120,12 @@ leb128_step_lem bits s at end = go (leb 1 (left_at s at end)) refl
         rw (byte_read s at end (omega arith), slice_first s at end h) (number-byte bits (get_or s at 0) (slice (at + 1) end s) at _ _ refl refl)
     go false e =
         let h : left_at s at end < 1 = leb-false _ _ e in
-        rw (byte-missing s at end (omega arith), slice_none s at end h) (number_none bits at)
+        rw (byte_missing s at end (omega arith), slice_none s at end h) (number_none bits at)
 
 -- where no byte is left, the first one is missing
 pub leb128_none : (bits : ℕ) (s : List ℕ) (at end : ℕ) → left_at s at end < 1 → leb128 bits s at end ≡ refused 1 at
 unfolding leb128_step
-leb128_none bits s at end h = leb128_step_lem bits s at end ∙ rw (byte-missing s at end (omega arith))
+leb128_none bits s at end h = leb128_step_lem bits s at end ∙ rw (byte_missing s at end (omega arith))
 
 -- a number looks at no byte outside its part
 pub leb128_part : Leb128InPart
@@ -132,7 +133,7 @@ unfolding leb128
 leb128_part bits s t at end e = rw e
 
 -- what an answered number says of its bytes
-pub leb128-bytes : (bits : ℕ) (s : List ℕ) (at end : ℕ) (r : Read) → leb128 bits s at end ≡ answered r
+pub leb128-bytes : (bits : ℕ) (s : List ℕ) (at end : ℕ) (r : Read ℕ) → leb128 bits s at end ≡ answered r
     → (base128 (number_bytes (slice at end s)) < 2 ^ bits) × (complete (number_bytes (slice at end s)) ≡ true)
     × (r.value ≡ base128 (number_bytes (slice at end s))) × (r.next ≡ at + length (number_bytes (slice at end s)))
 unfolding leb128 number_of_bytes
@@ -252,16 +253,16 @@ leb128_back bits v bs s after at end written h e =
     rw (e, w.bytes, w.value, lt-leb (2 ^ bits) v h, w.whole)
 
 -- a number whose later bytes are read as r, with the earlier ones worth `value` and the first of the later ones counting `scale`
-abbrev pub scaled : ℕ → ℕ → Outcome Read → Outcome Read
+abbrev pub scaled : ℕ → ℕ → Outcome (Read ℕ) → Outcome (Read ℕ)
 scaled value scale rest = rest >>= λ r. answered (record { value = value + scale * r.value; next = r.next })
 
-pub scaled-start : (rest : Outcome Read) → rest ≡ scaled 0 1 rest
+pub scaled-start : (rest : Outcome (Read ℕ)) → rest ≡ scaled 0 1 rest
 scaled-start (answered r) =
     let one : 0 + 1 * r.value ≡ r.value = omega arith in
     rw one
 scaled-start (refused n v) = refl
 
-pub scaled-more : (value scale b : ℕ) (rest : Outcome Read) → scaled value scale (rest >>= λ r. answered (prefixed b r)) ≡ scaled (value + scale * (b % 128)) (128 * scale) rest
+pub scaled-more : (value scale b : ℕ) (rest : Outcome (Read ℕ)) → scaled value scale (rest >>= λ r. answered (prefixed b r)) ≡ scaled (value + scale * (b % 128)) (128 * scale) rest
 scaled-more value scale b (answered r) =
     let same : value + scale * (b % 128 + 128 * r.value) ≡ value + scale * (b % 128) + 128 * scale * r.value = rw (mul-add, ← mul_assoc scale 128, mul_comm scale 128) (omega arith) in
     rw same

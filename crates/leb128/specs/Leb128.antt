@@ -4,7 +4,7 @@
 use Rattle.std.specs.Prelude.{ℕ, zero, suc, ◌+◌, ◌*◌, ◌^◌, ◌%◌, ◌/◌, List, [], ◌∷◌, ◌++◌, map, Bool, false, cond, ◌||◌, length, replicate, leb, ltb}
 use Rattle.std.proofs.Math.Seq.{slice}
 use Rattle.reader.specs.Outcome.{Outcome, answered, ◌>>=◌, ◌>>◌, demand, refuse_if}
-use Rattle.reader.specs.Numbers.{Read}
+use Rattle.reader.specs.declared.reader.Read.{Read}
 
 -- the bytes of the number with which a list begins: up to the first below 128, that one included
 unfoldable pub number_bytes : List ℕ → List ℕ
@@ -30,14 +30,14 @@ u16_limit = 16
 
 -- the number with these bytes, of which the first stands at the place `at`. Where a bit beyond the width is set, the bytes that are there make
 -- 2 ^ bits or more: refusal 7 (`ByteByByte` says where it comes). Else, where its last byte is missing, refusal 1 at the place of that byte.
-unfoldable pub number_of_bytes : ℕ → List ℕ → ℕ → Outcome Read
+unfoldable pub number_of_bytes : ℕ → List ℕ → ℕ → Outcome (Read ℕ)
 number_of_bytes bits bs at = do
   refuse_if (leb (2 ^ bits) (base128 bs)) 7 0
   demand (complete bs) 1 (at + length bs)
   answered (record { value = base128 bs; next = at + length bs })
 
 -- the number of a width at `at`, in a part that ends at `end`
-unfoldable pub leb128 : ℕ → List ℕ → ℕ → ℕ → Outcome Read
+unfoldable pub leb128 : ℕ → List ℕ → ℕ → ℕ → Outcome (Read ℕ)
 leb128 bits s at end = number_of_bytes bits (number_bytes (slice at end s)) at
 
 -- 7.6's encoder: while 128 or more is left, a byte with the low seven bits and bit 7 set; then what is left. `encoded` has turns enough.

@@ -4,7 +4,7 @@ use Rattle.std.specs.Prelude.{ℕ, suc, ◌+◌, ◌-◌, ◌*◌, ◌^◌, ◌%
 use Rattle.std.proofs.Math.Seq.{slice}
 use Rattle.reader.specs.Outcome.{Outcome, answered, refused, ◌>>◌, demand, refuse_if}
 use Rattle.reader.specs.Parts.{Forward}
-use Rattle.reader.specs.Numbers.{Read}
+use Rattle.reader.specs.declared.reader.Read.{Read}
 use Rattle.leb128.specs.Leb128.{number_bytes, complete, base128, unsigned_limit, u16_limit, leb128, encoded, padded}
 
 -- the ways to write a number: in the fewest bytes, or padded to any length
@@ -27,7 +27,7 @@ U16ReadsBack = Leb128ReadsBack u16_limit
 
 -- every number read fits its width
 abbrev pub Leb128Below : ℕ → Type 0
-Leb128Below bits = (s : List ℕ) (at end : ℕ) (r : Read) → leb128 bits s at end ≡ answered r → r.value < 2 ^ bits
+Leb128Below bits = (s : List ℕ) (at end : ℕ) (r : Read ℕ) → leb128 bits s at end ≡ answered r → r.value < 2 ^ bits
 
 abbrev pub UnsignedBelow : Type 0
 UnsignedBelow = Leb128Below unsigned_limit
@@ -37,7 +37,7 @@ U16Below = Leb128Below u16_limit
 
 -- an answered read moves forward by at least one byte and stays inside its part
 abbrev pub Leb128Forward : Type 0
-Leb128Forward = (bits : ℕ) (s : List ℕ) (at end : ℕ) (r : Read) → leb128 bits s at end ≡ answered r → Forward s at end r.next
+Leb128Forward = (bits : ℕ) (s : List ℕ) (at end : ℕ) (r : Read ℕ) → leb128 bits s at end ≡ answered r → Forward s at end r.next
 
 -- a read looks at no byte outside its part: of two sections with the same bytes there, it answers the same
 abbrev pub Leb128InPart : Type 0
@@ -65,7 +65,7 @@ BitsLeft = (bits i b : ℕ) → beyond bits i b ≡ leb (2 ^ (bits - 7 * i)) (b 
 -- Document 02's words, a byte at a time: these are the bytes that are left of the part, the first at the place `at` and at position i of the
 -- number, and what stands before them makes `value`. Where no byte is left, it is missing: 1 at its place. A byte with a bit set beyond the
 -- width is 7, whatever follows it or does not. The first byte below 128 is the last.
-unfoldable pub byte_by_byte : ℕ → ℕ → ℕ → List ℕ → ℕ → Outcome Read
+unfoldable pub byte_by_byte : ℕ → ℕ → ℕ → List ℕ → ℕ → Outcome (Read ℕ)
 byte_by_byte bits i value [] at = refused 1 at
 byte_by_byte bits i value (b ∷ bs) at =
     let sum : ℕ = value + 128 ^ i * (b % 128) in
@@ -77,13 +77,13 @@ ByteByByte = (bits : ℕ) (s : List ℕ) (at end : ℕ) → leb128 bits s at end
 
 -- gimli's rule: the byte at the position `last`, counted from 0, if there is one, must be at most `top`, else 7. As `top` is below
 -- 128, no number runs on past it.
-unfoldable pub gimli_of_bytes : ℕ → ℕ → List ℕ → ℕ → Outcome Read
+unfoldable pub gimli_of_bytes : ℕ → ℕ → List ℕ → ℕ → Outcome (Read ℕ)
 gimli_of_bytes last top bs at = do
   refuse_if (ltb top (get_or bs last 0)) 7 0
   demand (complete bs) 1 (at + length bs)
   answered (record { value = base128 bs; next = at + length bs })
 
-unfoldable pub gimli_leb128 : ℕ → ℕ → List ℕ → ℕ → ℕ → Outcome Read
+unfoldable pub gimli_leb128 : ℕ → ℕ → List ℕ → ℕ → ℕ → Outcome (Read ℕ)
 gimli_leb128 last top s at end = gimli_of_bytes last top (number_bytes (slice at end s)) at
 
 -- where the byte of the number at that position, if there is one, does not continue, gimli reads the same
@@ -103,10 +103,10 @@ abbrev pub AsGimliSupposes : Type 0
 AsGimliSupposes = (get_or (number_bytes (replicate 9 0xff ++ 0x01 ∷ [])) 9 0 < 128) × (get_or (number_bytes (0xff ∷ 0xff ∷ 0x03 ∷ [])) 2 0 < 128)
 
 -- numbers at the start of these bytes, in a part that ends with them
-abbrev unsigned : List ℕ → Outcome Read
+abbrev unsigned : List ℕ → Outcome (Read ℕ)
 unsigned s = leb128 unsigned_limit s 0 (length s)
 
-abbrev u16 : List ℕ → Outcome Read
+abbrev u16 : List ℕ → Outcome (Read ℕ)
 u16 s = leb128 u16_limit s 0 (length s)
 
 -- Computed, for 64 bits and for 16: padding, short and long; the largest number, padded; a bit beyond the width in the tenth (third) byte,

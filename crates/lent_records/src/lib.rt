@@ -5,14 +5,13 @@
 ghost use Rattle.std.specs.Prelude.{◌≤◌};
 
 use query::query;
-use query_plan::QueryRead;
-use reader::{NameTableIndex, RunTimeEndian, UnitOffset};
+use reader::{Error, NameTableIndex, RunTimeEndian, UnitOffset};
 use records::Record;
 
 // What a query answers, and four records as it leaves them.
 #[derive(Clone, Copy)]
 pub struct Got {
-    pub answer: QueryRead,
+    pub answer: Result<u64, Error>,
     pub recs: [Record; 4],
 }
 
@@ -30,33 +29,28 @@ pub fn old() -> Record {
     }
 }
 
-// Four of them.
-fn old4() -> [Record; 4] {
-    let r = old();
-    [r; 4]
+// What a query reads: a section in its byte order, and the .debug_str.
+#[derive(Clone, Copy)]
+pub struct Lent<'a> {
+    pub order: RunTimeEndian,
+    pub section: &'a [u8],
+    pub strings: &'a [u8],
 }
 
-fn as_got(recs: [Record; 4], answer: QueryRead) -> Got {
-    Got { answer, recs }
-}
-
-// A query that is lent the first of four records, as many as there is room for.
-pub fn query_room(
-    order: RunTimeEndian,
-    section: &[u8],
-    strings: &[u8],
-    hash: u32,
-    name: &[u8],
-    room: usize,
-) -> Got
-    requires { room ≤ 4 }
-{
-    let mut recs = old4();
-    let answer = query(order, section, strings, hash, name, &mut recs[..room]);
-    as_got(recs, answer)
-}
-
-// A query that is lent all four.
-pub fn query4(order: RunTimeEndian, section: &[u8], strings: &[u8], hash: u32, name: &[u8]) -> Got {
-    query_room(order, section, strings, hash, name, 4)
+impl Lent<'_> {
+    // A query that is lent the first of four records, as many as there is room for.
+    pub fn query(self, hash: u32, name: &[u8], room: usize) -> Got
+        requires { room ≤ 4 }
+    {
+        let mut recs = [old(); 4];
+        let answer = query(
+            self.order,
+            self.section,
+            self.strings,
+            hash,
+            name,
+            &mut recs[..room],
+        );
+        Got { answer, recs }
+    }
 }

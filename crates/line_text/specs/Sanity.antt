@@ -1,9 +1,7 @@
 -- What a reader of the definitions may want to be sure of: that decimal digits are right, and examples of lines. The laws of these types prove it, in
 -- proofs/DecimalLaws.antt and proofs/TextLaws.antt.
-use Rattle.std.specs.Prelude.{ℕ, ◌+◌, ◌-◌, ◌*◌, ◌/◌, ◌%◌, ◌≤◌, ◌<◌, ◌≡◌, cond, List, [], ◌∷◌, ◌++◌, map, get_or, ltb}
+use Rattle.std.specs.Prelude.{ℕ, ◌+◌, ◌-◌, ◌*◌, ◌/◌, ◌%◌, ◌≤◌, ◌<◌, ◌≡◌, cond, List, [], ◌∷◌, ◌++◌, map, get_or, ltb, Option, Some, None}
 use Prim.Native.String.{String}
-use Rattle.listing.specs.declared.name.NameHash.{NameHash}
-use Rattle.listing.specs.declared.index_line.Missed.{Missed}
 use Rattle.listing.specs.declared.lines.Line.{Line}
 use Rattle.line_text.specs.Text.{bytes, digit, decimal, line_text, refused_text}
 
@@ -32,27 +30,27 @@ abbrev pub DecimalSteps : Type 0
 DecimalSteps = (n : ℕ) → decimal n ≡ cond (ltb n 10) (digit n ∷ []) (decimal (n / 10) ++ (digit (n % 10) ∷ []))
 
 -- lines of these numbers
-abbrev index : ℕ → ℕ → ℕ → Missed → Line
+abbrev index : ℕ → ℕ → ℕ → Option ℕ → Line
 index place names buckets missed = Line.Index (record { place = record { 0 = place }; name_count = names; bucket_count = buckets; missed = missed })
 
-abbrev name : ℕ → NameHash → ℕ → ℕ → Line
+abbrev name : ℕ → Option ℕ → ℕ → ℕ → Line
 name number hash string entries = Line.Name (record { name = record { 0 = number }; hash = hash; string = record { 0 = string }; entries = entries })
 
 -- Case A's lines; then lines with several digits in every field, with the largest numbers that the code's types hold (of the place that of the longest
 -- section), and with "-" for missed and for a hash; no indexes, and twenty; and two refusals.
 abbrev pub written : List (List ℕ)
 written =
-    line_text (index 0 3 2 (Missed.Some 0))
-    ∷ line_text (name 0 (NameHash.Some 4) 1 1)
-    ∷ line_text (name 1 (NameHash.Some 7) 5 1)
-    ∷ line_text (name 2 (NameHash.Some 9) 6 1)
+    line_text (index 0 3 2 (Some 0))
+    ∷ line_text (name 0 (Some 4) 1 1)
+    ∷ line_text (name 1 (Some 7) 5 1)
+    ∷ line_text (name 2 (Some 9) 6 1)
     ∷ line_text (Line.Indexes 1)
-    ∷ line_text (index 10 12 34 (Missed.Some 56))
-    ∷ line_text (index 2147483647 4294967295 4294967295 (Missed.Some 4294967295))
-    ∷ line_text (index 53 1 0 Missed.None)
-    ∷ line_text (name 11 (NameHash.Some 1010) 100 23)
-    ∷ line_text (name 4294967295 (NameHash.Some 4294967295) 18446744073709551615 18446744073709551615)
-    ∷ line_text (name 0 NameHash.None 7 1)
+    ∷ line_text (index 10 12 34 (Some 56))
+    ∷ line_text (index 2147483647 4294967295 4294967295 (Some 4294967295))
+    ∷ line_text (index 53 1 0 None)
+    ∷ line_text (name 11 (Some 1010) 100 23)
+    ∷ line_text (name 4294967295 (Some 4294967295) 18446744073709551615 18446744073709551615)
+    ∷ line_text (name 0 None 7 1)
     ∷ line_text (Line.Indexes 0)
     ∷ line_text (Line.Indexes 20)
     ∷ refused_text 1

@@ -4,14 +4,16 @@
 -- first of a line has a blank before it, too. (The words below are written with their blanks.) The line of an index has the fields index, names,
 -- buckets and missed; that of a name has name, hash, string and entries; the last line has indexes alone. Where there is no number, missed or hash of
 -- an index without buckets, a "-" stands in its place. A refusal's line is the word refused and its number.
-use Rattle.std.specs.Prelude.{ℕ, zero, suc, ◌+◌, ◌/◌, ◌%◌, cond, List, [], ◌∷◌, ◌++◌, ltb}
+use Rattle.std.specs.Prelude.{ℕ, zero, suc, ◌+◌, ◌/◌, ◌%◌, cond, List, [], ◌∷◌, ◌++◌, ltb, Option, Some, None}
 use Prim.Native.Char.{code}
 use Prim.Native.String.{String, [] as no_more, ◌∷◌ as ◌then◌}
-use Rattle.listing.specs.declared.name.NameHash.{NameHash}
 use Rattle.listing.specs.declared.name.NameLine.{NameLine}
-use Rattle.listing.specs.declared.index_line.Missed.{Missed}
 use Rattle.listing.specs.declared.index_line.IndexLine.{IndexLine}
 use Rattle.listing.specs.declared.lines.Line.{Line}
+use Rattle.std.specs.Prelude.{Result, Ok, Err}
+use Rattle.reader.specs.Errors.{number_of}
+use Rattle.reader.specs.declared.error.Error.{Error}
+use Rattle.line_text.specs.declared.LineText.{LineText}
 
 -- the bytes of a word in ASCII: the codes of its characters
 unfoldable pub bytes : String → List ℕ
@@ -34,43 +36,45 @@ digits_in (suc turns) n =
 unfoldable pub decimal : ℕ → List ℕ
 decimal n = digits_in (suc n) n
 
--- a word and its number
-abbrev pub field : String → ℕ → List ℕ
-field word n = bytes word ++ decimal n
-
--- missed and hash, which an index without buckets has not
-abbrev pub missed_field : Missed → List ℕ
-missed_field (Missed.Some n) = field " missed " n
-missed_field Missed.None = bytes " missed -"
-
-abbrev pub hash_field : NameHash → List ℕ
-hash_field (NameHash.Some h) = field " hash " h
-hash_field NameHash.None = bytes " hash -"
+-- missed and hash, which an index without buckets has not: a "-" stands in the number's place
+abbrev pub or_dash : Option ℕ → List ℕ
+or_dash (Some n) = decimal n
+or_dash None = bytes "-"
 
 abbrev pub line_end : List ℕ
 line_end = bytes "\n"
 
 unfoldable pub index_text : IndexLine → List ℕ
 index_text l =
-    field "index " l.place.0
-    ++ field " names " l.name_count
-    ++ field " buckets " l.bucket_count
-    ++ missed_field l.missed
+    bytes "index " ++ decimal l.place.0
+    ++ bytes " names " ++ decimal l.name_count
+    ++ bytes " buckets " ++ decimal l.bucket_count
+    ++ bytes " missed "
+    ++ or_dash l.missed
     ++ line_end
 
 unfoldable pub name_text : NameLine → List ℕ
 name_text l =
-    field "name " l.name.0
-    ++ hash_field l.hash
-    ++ field " string " l.string.0
-    ++ field " entries " l.entries
+    bytes "name " ++ decimal l.name.0
+    ++ bytes " hash "
+    ++ or_dash l.hash
+    ++ bytes " string " ++ decimal l.string.0
+    ++ bytes " entries " ++ decimal l.entries
     ++ line_end
 
 -- a line's text, and that of a refusal in the place of a line
 unfoldable pub line_text : Line → List ℕ
 line_text (Line.Index l) = index_text l
 line_text (Line.Name l) = name_text l
-line_text (Line.Indexes n) = field "indexes " n ++ line_end
+line_text (Line.Indexes n) = bytes "indexes " ++ decimal n ++ line_end
 
 unfoldable pub refused_text : ℕ → List ℕ
-refused_text number = field "refused " number ++ line_end
+refused_text number = bytes "refused " ++ decimal number ++ line_end
+
+-- the text of what a step prints: that of its line, or of the refusal in its place
+abbrev pub text_of : LineText → List ℕ
+text_of t = answer_text_of t.0
+  where
+    answer_text_of : Result Line Error → List ℕ
+    answer_text_of (Ok l) = line_text l
+    answer_text_of (Err e) = refused_text (number_of e)

@@ -1,113 +1,74 @@
-// The text of a listing's lines (document 01, "Bytes to try"): which bytes stand in the line of an index, of a name and of a refusal, and in the last
-// line. specs/Text.antt says what they are; `io::decimal` gives the digits.
+// The text of a listing's lines (document 01, "Bytes to try"): what is printed of the line of an index, of a name and of a refusal, and of the last
+// line. specs/Text.antt says which bytes they are.
 #![tactic(auto)]
 
-ghost use Rattle.std.specs.Prelude.{◌+◌, ◌≡◌, ◌++◌, [], length};
-ghost use Rattle.line_text.specs.Text.{decimal, hash_field, index_text, name_text, line_text, refused_text};
-ghost use Rattle.line_text.specs.Room.{shown, Room, Behind};
+ghost use Rattle.std.specs.Prelude.{Some};
+ghost use Rattle.std.specs.Fmt.{DisplaysOnOk};
+ghost use Rattle.line_text.specs.Text.{index_text, name_text, or_dash, text_of};
 
-use listing::{IndexLine, Line, Missed, NameHash, NameLine};
+use listing::{IndexLine, Line, NameLine};
+use reader::Error;
+use std::fmt;
 
-// A text: the first len of the bytes. No line is longer than 89 bytes.
+// A number that may be missing: a "-" stands in its place.
 #[derive(Clone, Copy)]
-pub struct LineText {
-    pub bytes: [u8; 128],
-    pub len: usize,
-}
+struct OrDash(Option<u32>);
 
-// No text.
-pub fn empty() -> LineText
-    ensures { (Room result 128) × (shown result ≡ []) }
-{
-    LineText {
-        bytes: [0; 128],
-        len: 0,
+impl fmt::Display for OrDash {
+    ghost output = { λ n. Some (or_dash n.0) };
+
+    #[tactic(auto, unfolding(crate::specs::Text::bytes), using(crate::proofs::DecimalLaws::printed_decimal))]
+    fn fmt<W: fmt::Write>(&self, f: &mut fmt::Formatter<W>) -> fmt::Result {
+        match self.0 {
+            Some(number) => write!(f, "{number}"),
+            None => write!(f, "-"),
+        }
     }
 }
 
-// The text with a word behind it.
-fn with_word(text: LineText, word: &[u8]) -> LineText
-    requires { Room text (length word.now) }
-    ensures { Behind text result word.now (length word.now) }
+// The line of an index.
+#[tactic(auto, unfolding(crate::specs::Text::bytes, crate::specs::Text::index_text), using(crate::proofs::DecimalLaws::printed_decimal))]
+fn write_index<W: fmt::Write>(line: IndexLine, f: &mut fmt::Formatter<W>) -> fmt::Result
+    ensures { DisplaysOnOk W.write_str_gives f.old result (Some (index_text line)) f.new }
 {
-    let mut bytes = text.bytes;
-    let at = text.len;
-    let mut i = 0;
-    while i < word.len() {
-        bytes[at + i] = word[i];
-        i += 1;
+    let (place, names, buckets) = (line.place.0, line.name_count, line.bucket_count);
+    let missed = OrDash(line.missed);
+    writeln!(
+        f,
+        "index {place} names {names} buckets {buckets} missed {missed}"
+    )
+}
+
+// The line of a name.
+#[tactic(auto, unfolding(crate::specs::Text::bytes, crate::specs::Text::name_text), using(crate::proofs::DecimalLaws::printed_decimal))]
+fn write_name<W: fmt::Write>(line: NameLine, f: &mut fmt::Formatter<W>) -> fmt::Result
+    ensures { DisplaysOnOk W.write_str_gives f.old result (Some (name_text line)) f.new }
+{
+    let (name, string, entries) = (line.name.0, line.string.0, line.entries);
+    let hash = OrDash(line.hash);
+    writeln!(
+        f,
+        "name {name} hash {hash} string {string} entries {entries}"
+    )
+}
+
+// What a step of the listing prints: a line, or the refusal in its place, by its number.
+#[derive(Clone, Copy)]
+pub struct LineText(pub Result<Line, Error>);
+
+impl fmt::Display for LineText {
+    ghost output = { λ t. Some (text_of t) };
+
+    #[tactic(auto, unfolding(crate::specs::Text::bytes, crate::specs::Text::line_text, crate::specs::Text::refused_text), using(crate::proofs::DecimalLaws::printed_decimal))]
+    fn fmt<W: fmt::Write>(&self, f: &mut fmt::Formatter<W>) -> fmt::Result {
+        match self.0 {
+            Ok(Line::Index(line)) => write_index(line, f),
+            Ok(Line::Name(line)) => write_name(line, f),
+            Ok(Line::Indexes(count)) => writeln!(f, "indexes {count}"),
+            Err(error) => {
+                let number = error.number();
+                writeln!(f, "refused {number}")
+            }
+        }
     }
-    LineText {
-        bytes: bytes,
-        len: at + i,
-    }
-}
-
-// The text with a word and its number behind it.
-fn with_field(text: LineText, word: &[u8], number: u64) -> LineText
-    requires { Room text (length word.now + 20) }
-    ensures { Behind text result (word.now ++ decimal number) (length word.now + 20) }
-{
-    let named = with_word(text, word);
-    let mut digits = [0; 20];
-    let count = io::decimal(number, &mut digits);
-    with_word(named, &digits[..count])
-}
-
-// The text of an index's line.
-fn index_text(line: IndexLine) -> LineText
-    ensures { (shown result ≡ index_text line) × Room result 0 }
-{
-    let place = line.place;
-    let missed = line.missed;
-    let placed = with_field(empty(), b"index ", place.0 as u64);
-    let named = with_field(placed, b" names ", line.name_count as u64);
-    let hashed = with_field(named, b" buckets ", line.bucket_count as u64);
-    match missed {
-        Missed::Some(count) => with_word(with_field(hashed, b" missed ", count as u64), b"\n"),
-        Missed::None => with_word(with_word(hashed, b" missed -"), b"\n"),
-    }
-}
-
-// The text with a name's hash behind it.
-fn with_hash(text: LineText, hash: NameHash) -> LineText
-    requires { Room text 26 }
-    ensures { Behind text result (hash_field hash) 26 }
-{
-    match hash {
-        NameHash::Some(stored) => with_field(text, b" hash ", stored as u64),
-        NameHash::None => with_word(text, b" hash -"),
-    }
-}
-
-// The text of a name's line.
-fn name_text(line: NameLine) -> LineText
-    ensures { (shown result ≡ name_text line) × Room result 0 }
-{
-    let name = line.name;
-    let hash = line.hash;
-    let string = line.string;
-    let numbered = with_field(empty(), b"name ", name.0 as u64);
-    let hashed = with_hash(numbered, hash);
-    let placed = with_field(hashed, b" string ", string.0 as u64);
-    let counted = with_field(placed, b" entries ", line.entries as u64);
-    with_word(counted, b"\n")
-}
-
-// The text of a line.
-pub fn line_text(line: Line) -> LineText
-    ensures { (shown result ≡ line_text line) × Room result 0 }
-{
-    match line {
-        Line::Index(index) => index_text(index),
-        Line::Name(name) => name_text(name),
-        Line::Indexes(count) => with_word(with_field(empty(), b"indexes ", count as u64), b"\n"),
-    }
-}
-
-// The text of a refusal, by its number.
-pub fn refused_text(number: u8) -> LineText
-    ensures { (shown result ≡ refused_text number) × Room result 0 }
-{
-    with_word(with_field(empty(), b"refused ", number as u64), b"\n")
 }

@@ -4,7 +4,7 @@ use mathlib.Core.Path.{◌≡◌, refl, sym, ap, ◌∙◌}
 use mathlib.Core.Bool.{Bool, true, false, cond}
 use mathlib.Core.Logic.{◌⊎◌, inl, inr}
 use mathlib.Core.List.{List, [], ◌∷◌}
-use mathlib.Core.Option.{Option, some, none}
+use Rattle.std.specs.Prelude.{Option, Some, None}
 use native.Mathlib.Omega.{arith}
 use lib.ListN.{length}
 use lib.Dec.{ltb, leb, eqb}
@@ -33,18 +33,17 @@ use Rattle.listing.specs.declared.lines.ListingIter.{ListingIter}
 use Rattle.listing.specs.Names.{name_line}
 use Rattle.listing.specs.Indexes.{opened_index}
 use Rattle.listing.specs.Lines.{name_lines, header_lines, section_lines, first_line, ended_at, past_name, past_index, line_or, header_line, head_step, line_step}
-use Rattle.listing.specs.Answers.{line_step_of}
 use Rattle.listing.specs.Listed.{LinesListed}
 
 -- a step that gives a header is one over a section that is not too long
-pub step_short : (order : RunTimeEndian) (s : List ℕ) (c : NameIndexHeaderIter) (h : NameIndexHeader) → (header_step order s c).answer ≡ answered (some h) → length s ≤ longest
+pub step_short : (order : RunTimeEndian) (s : List ℕ) (c : NameIndexHeaderIter) (h : NameIndexHeader) → (header_step order s c).answer ≡ answered (Some h) → length s ≤ longest
 unfolding header_step
 step_short order s c h = tested (ltb longest (length s)) refl
   where
     after : Outcome (Step NameIndexHeader NameIndexHeaderIter)
-    after = refuse_if (ltb (length s) c.at) 14 0 >> answered (cond (eqb c.at (length s)) (record { answer = answered none; cursor = c }) (after_header s (header order s c.at)))
+    after = refuse_if (ltb (length s) c.at) 14 0 >> answered (cond (eqb c.at (length s)) (record { answer = answered None; cursor = c }) (after_header s (header order s c.at)))
 
-    tested : (t : Bool) → ltb longest (length s) ≡ t → (keeping c (refuse_if t 13 0 >> after)).answer ≡ answered (some h) → length s ≤ longest
+    tested : (t : Bool) → ltb longest (length s) ≡ t → (keeping c (refuse_if t 13 0 >> after)).answer ≡ answered (Some h) → length s ≤ longest
     tested true e same = absurd (refused-answered same)
     tested false e same = ltb-false longest (length s) e
 
@@ -68,7 +67,7 @@ module _ (order : RunTimeEndian) (s : List ℕ) where
   NextLine c = Next (line_step order s) Reached left c
 
   -- where the step and what is left are known
-  gives_line : (c : ListingIter) (l : Line) (d : ListingIter) (rest : Listing Line) → line_step order s c ≡ record { answer = answered (some l); cursor = d }
+  gives_line : (c : ListingIter) (l : Line) (d : ListingIter) (rest : Listing Line) → line_step order s c ≡ record { answer = answered (Some l); cursor = d }
       → left c ≡ answers_of (λ l. l) (item l rest) → answers_of (λ l. l) rest ≡ left d → Reached d → NextLine c
   unfolding answers_of
   gives_line c l d rest step now after reached = gives_item l (rw (step, sym after) now) (ap (λ t. t.answer) step) (rw step reached)
@@ -89,11 +88,11 @@ module _ (order : RunTimeEndian) (s : List ℕ) where
     where
       -- the step where the section is not too long
       head : length s ≤ longest → line_step order s c
-          ≡ line_or c (cond (leb (length s) c.at) (record { answer = answered none; cursor = record { at = c.at } }) (after_header s (header order s c.at))).answer (header_line order s c)
+          ≡ line_or c (cond (leb (length s) c.at) (record { answer = answered None; cursor = record { at = c.at } }) (after_header s (header order s c.at))).answer (header_line order s c)
       head short = step ∙ rw (le-ltb c.at c.listed few, header_step_at order s (record { at = c.at }) short inside)
 
       by_opened : (h : NameIndexHeader) (o : Outcome Opened) → header order s c.at ≡ answered h → opened_index order s h ≡ o → ltb longest (length s) ≡ false
-          → line_step order s c ≡ line_or c o (λ o. record { answer = answered (some (Line.Index o.line)); cursor = past_index c h o.index })
+          → line_step order s c ≡ line_or c o (λ o. record { answer = answered (Some (Line.Index o.line)); cursor = past_index c h o.index })
           → left c ≡ answers_of (λ l. l) (or_broken o λ o. item (Line.Index o.line) (name_lines order s o.index (names_from o.index 0) (header_lines order s (c.listed + 1) (headers_from order s h.content.end))))
           → NextLine c
       by_opened h (answered o) read opened short went has =
@@ -102,8 +101,8 @@ module _ (order : RunTimeEndian) (s : List ℕ) where
       by_opened h (refused n v) read opened short went has = gives_end c n v went has
 
       by_header : (t : Bool) (o : Outcome NameIndexHeader) → header order s c.at ≡ o → ltb longest (length s) ≡ false
-          → line_step order s c ≡ line_or c (cond t (record { answer = answered none; cursor = record { at = c.at } }) (after_header s o)).answer (header_line order s c)
-          → left c ≡ answers_of (λ l. l) (header_lines order s c.listed (listed (cond t (answered none) (o >>= λ h. answered (some h))) λ h. headers_from order s h.content.end))
+          → line_step order s c ≡ line_or c (cond t (record { answer = answered None; cursor = record { at = c.at } }) (after_header s o)).answer (header_line order s c)
+          → left c ≡ answers_of (λ l. l) (header_lines order s c.listed (listed (cond t (answered None) (o >>= λ h. answered (Some h))) λ h. headers_from order s h.content.end))
           → NextLine c
       by_header true o read short went has = gives_line c (Line.Indexes c.listed) (ended_at c) ended went has none_more (inl refl)
       by_header false (answered h) read short went has = by_opened h (opened_index order s h) read refl short went has
@@ -119,14 +118,14 @@ module _ (order : RunTimeEndian) (s : List ℕ) where
   each c reached = by_done c.done refl reached
     where
       by_name : (o : Outcome NameLine) → c.done ≡ false → name_line order s c.index c.name ≡ o → (c.at ≤ length s) × (c.listed ≤ c.at)
-          → line_step order s c ≡ line_or c o (λ l. record { answer = answered (some (Line.Name l)); cursor = past_name c })
+          → line_step order s c ≡ line_or c o (λ l. record { answer = answered (Some (Line.Name l)); cursor = past_name c })
           → left c ≡ answers_of (λ l. l) (or_broken o λ l. item (Line.Name l) (name_lines order s c.index (names_from c.index (c.name.0 + 1)) (lines_at c.listed c.at)))
           → NextLine c
       by_name (answered l) still line bounds went has = gives_line c (Line.Name l) (past_name c) _ went has refl (inr bounds)
       by_name (refused n v) still line bounds went has = gives_end c n v went has
 
       by_names : (t : Bool) → c.done ≡ false → (c.at ≤ length s) × (c.listed ≤ c.at)
-          → line_step order s c ≡ cond t (head_step order s c) (line_or c (name_line order s c.index c.name) λ l. record { answer = answered (some (Line.Name l)); cursor = past_name c })
+          → line_step order s c ≡ cond t (head_step order s c) (line_or c (name_line order s c.index c.name) λ l. record { answer = answered (Some (Line.Name l)); cursor = past_name c })
           → left c ≡ answers_of (λ l. l) (name_lines order s c.index (cond t [] (c.name.0 ∷ names_from c.index (c.name.0 + 1))) (lines_at c.listed c.at))
           → NextLine c
       by_names true still (inside, few) went has = at-header c inside few went has
@@ -135,7 +134,7 @@ module _ (order : RunTimeEndian) (s : List ℕ) where
       by_done : (t : Bool) → c.done ≡ t → (c.done ≡ true) ⊎ ((c.at ≤ length s) × (c.listed ≤ c.at)) → NextLine c
       by_done true e g = at-end (rw e) (ap (λ t. t.answer) (line_step_done e))
         where
-          line_step_done : c.done ≡ true → line_step order s c ≡ record { answer = answered none; cursor = c }
+          line_step_done : c.done ≡ true → line_step order s c ≡ record { answer = answered None; cursor = c }
           line_step_done e = rw e
       by_done false e (inl h) = absurd (false_true (sym e ∙ h))
       by_done false e (inr bounds) = by_names (leb c.index.name_count c.name.0) e bounds (rw e) (rw (e, names_step c.index c.name.0))
@@ -151,4 +150,4 @@ first-left order s = refl
 
 pub lines_listed : LinesListed
 lines_listed order s steps linked =
-    rw (sym (first-left order s)) (steps_list line_step_of (line_step order s) (Reached order s) (left order s) (each order s) steps first_line (first-reached order s) linked)
+    rw (sym (first-left order s)) (steps_list (line_step order s) (Reached order s) (left order s) (each order s) steps first_line (first-reached order s) linked)

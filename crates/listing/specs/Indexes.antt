@@ -1,22 +1,22 @@
 -- The line of an index: document 01, "index place, N, B, missed". `s` is the section.
-use Rattle.std.specs.Prelude.{ℕ, List}
+use Rattle.std.specs.Prelude.{ℕ, List, Option, Some, None}
 use Rattle.reader.specs.Outcome.{Outcome, answered, ◌>>=◌}
 use Rattle.reader.specs.declared.endianity.RunTimeEndian.{RunTimeEndian}
 use Rattle.headers.specs.declared.header.NameIndexHeader.{NameIndexHeader}
 use Rattle.index.specs.declared.layout.NameIndex.{NameIndex}
 use Rattle.index.specs.Open.{name_index}
-use Rattle.tables.specs.Check.{Checked, no_table, complete, incomplete, table_check}
-use Rattle.listing.specs.declared.index_line.Missed.{Missed}
+use Rattle.tables.specs.declared.TableCheck.{TableCheck}
+use Rattle.tables.specs.Check.{table_check}
 use Rattle.listing.specs.declared.index_line.Opened.{Opened}
 
 -- how many names are missed, by what the table check says; without a hash table there is no such number. The name and the hash of an incomplete
 -- answer are not printed (document 02, No. 2).
-abbrev pub missed_by : Checked → Missed
-missed_by no_table = Missed.None
-missed_by complete = Missed.Some 0
-missed_by (incomplete lost) = Missed.Some lost.missed
+abbrev pub missed_by : TableCheck → Option ℕ
+missed_by TableCheck.NoTable = None
+missed_by TableCheck.Complete = Some 0
+missed_by (TableCheck.Incomplete lost) = Some lost.missed
 
-unfoldable pub missed_in : RunTimeEndian → List ℕ → NameIndex → Outcome Missed
+unfoldable pub missed_in : RunTimeEndian → List ℕ → NameIndex → Outcome (Option ℕ)
 missed_in order s i = do
   checked ← table_check order s i
   answered (missed_by checked)

@@ -1,6 +1,6 @@
 -- The lines of a section, and the steps over them: document 01, "Bytes to try". `s` is the section.
 use Rattle.std.specs.Prelude.{ℕ, ◌+◌, true, false, cond, List, [], ◌∷◌, length, ltb, leb}
-use Rattle.std.proofs.Math.Option.{Option, some, none}
+use Rattle.std.specs.Prelude.{Option, Some, None}
 use Rattle.reader.specs.Outcome.{Outcome, answered, refused, refuse_if}
 use Rattle.reader.specs.Errors.{longest}
 use Rattle.reader.specs.Steps.{Step}
@@ -54,8 +54,8 @@ line_or c (refused n v) more = record { answer = refused n v; cursor = ended_at 
 
 -- the line of the header at the cursor's place, or after the last the number of indexes
 abbrev pub header_line : RunTimeEndian → List ℕ → ListingIter → Option NameIndexHeader → Step Line ListingIter
-header_line order s c none = record { answer = answered (some (Line.Indexes c.listed)); cursor = ended_at c }
-header_line order s c (some h) = line_or c (opened_index order s h) λ o. record { answer = answered (some (Line.Index o.line)); cursor = past_index c h o.index }
+header_line order s c None = record { answer = answered (Some (Line.Indexes c.listed)); cursor = ended_at c }
+header_line order s c (Some h) = line_or c (opened_index order s h) λ o. record { answer = answered (Some (Line.Index o.line)); cursor = past_index c h o.index }
 
 -- the step to the next index: a cursor that has listed more indexes than there are bytes before its place does not fit
 unfoldable pub head_step : RunTimeEndian → List ℕ → ListingIter → Step Line ListingIter
@@ -64,7 +64,7 @@ head_step order s c = line_or c (refuse_if (ltb c.at c.listed) 14 0) λ u. line_
 -- the step: the names of the open index, then the next index
 unfoldable pub line_step : RunTimeEndian → List ℕ → ListingIter → Step Line ListingIter
 line_step order s c = cond c.done
-    (record { answer = answered none; cursor = c })
+    (record { answer = answered None; cursor = c })
     (cond (leb c.index.name_count c.name.0)
     (head_step order s c)
-    (line_or c (name_line order s c.index c.name) λ l. record { answer = answered (some (Line.Name l)); cursor = past_name c }))
+    (line_or c (name_line order s c.index c.name) λ l. record { answer = answered (Some (Line.Name l)); cursor = past_name c }))

@@ -1,5 +1,5 @@
 -- The line of a name: document 01, "name number, stored hash, string offset, entries in its series". `s` is the section.
-use Rattle.std.specs.Prelude.{ℕ, ◌*◌, cond, List, eqb}
+use Rattle.std.specs.Prelude.{ℕ, ◌*◌, cond, List, eqb, Option, Some, None}
 use Rattle.reader.specs.Outcome.{Outcome, answered, ◌>>=◌}
 use Rattle.reader.specs.Parts.{skipped}
 use Rattle.reader.specs.Numbers.{read_number}
@@ -10,19 +10,18 @@ use Rattle.index.specs.declared.layout.NameIndex.{NameIndex}
 use Rattle.index.specs.Layout.{fitted}
 use Rattle.names.specs.Names.{name_string_offset}
 use Rattle.entries.specs.Series.{series}
-use Rattle.listing.specs.declared.name.NameHash.{NameHash}
 use Rattle.listing.specs.declared.name.NameLine.{NameLine}
 
 -- the hash that is stored for a name, skipped to and read; none without buckets
-unfoldable pub name_hash : RunTimeEndian → List ℕ → NameIndex → NameTableIndex → Outcome NameHash
+unfoldable pub name_hash : RunTimeEndian → List ℕ → NameIndex → NameTableIndex → Outcome (Option ℕ)
 name_hash order s i name = do
   p ← fitted s i
   cond (eqb i.bucket_count 0)
-      (answered NameHash.None)
+      (answered None)
       (do
         place ← skipped (4 * name.0) s p.hash_table_data p.name_table_data
         hash ← read_number 4 order s place p.name_table_data
-        answered (NameHash.Some hash.value))
+        answered (Some hash.value))
 
 -- how many entries the series of a name has
 unfoldable pub entry_count : RunTimeEndian → List ℕ → NameIndex → NameTableIndex → Outcome ℕ

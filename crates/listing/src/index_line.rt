@@ -1,32 +1,20 @@
 // The line of an index: its place, its numbers of names and buckets, and how many names its hash table misses.
+// (order, section, index) stay parameters: with a struct that lends the section, contracts are no plainer (docs/DECISIONS.md).
 ghost use Rattle.std.specs.Prelude.{◌≡◌};
-ghost use Rattle.listing.specs.Answers.{missed_outcome, opened_outcome};
+ghost use Rattle.reader.specs.Answers.{outcome};
 ghost use Rattle.listing.specs.Indexes.{missed_in, opened_index};
 
 use headers::NameIndexHeader;
-use index::{IndexRead, NameIndex};
+use index::NameIndex;
 use reader::{DebugNamesOffset, Error, RunTimeEndian};
 use tables::{TableCheck, check_table};
-
-// How many names a hash table misses; none where there is no hash table.
-#[derive(Clone, Copy)]
-pub enum Missed {
-    None,
-    Some(u32),
-}
-
-#[derive(Clone, Copy)]
-pub enum MissedRead {
-    Value(Missed),
-    Refused(Error),
-}
 
 #[derive(Clone, Copy)]
 pub struct IndexLine {
     pub place: DebugNamesOffset,
     pub name_count: u32,
     pub bucket_count: u32,
-    pub missed: Missed,
+    pub missed: Option<u32>,
 }
 
 // An index that was opened, and its line.
@@ -36,43 +24,32 @@ pub struct Opened {
     pub line: IndexLine,
 }
 
-#[derive(Clone, Copy)]
-pub enum OpenedRead {
-    Value(Opened),
-    Refused(Error),
-}
-
-// How many names the hash table of an index misses.
-fn missed_in(order: RunTimeEndian, section: &[u8], index: NameIndex) -> MissedRead
-    ensures { missed_outcome result ≡ missed_in order section.now index }
+// How many names the hash table of an index misses; none where it has no hash table.
+#[tactic(auto, unfolding(crate::specs::Indexes::missed_in))]
+fn missed_in(order: RunTimeEndian, section: &[u8], index: NameIndex) -> Result<Option<u32>, Error>
+    ensures { outcome result ≡ missed_in order section.now index }
 {
-    match check_table(order, section, index) {
-        TableCheck::NoTable => MissedRead::Value(Missed::None),
-        TableCheck::Complete => MissedRead::Value(Missed::Some(0)),
-        TableCheck::Incomplete(n) => MissedRead::Value(Missed::Some(n.missed)),
-        TableCheck::Refused(e) => MissedRead::Refused(e),
-    }
+    Ok(match check_table(order, section, index)? {
+        TableCheck::NoTable => None,
+        TableCheck::Complete => Some(0),
+        TableCheck::Incomplete(lost) => Some(lost.missed),
+    })
 }
 
 // Opens the index of a header, and checks its table.
-pub fn open(order: RunTimeEndian, section: &[u8], header: NameIndexHeader) -> OpenedRead
-    ensures { opened_outcome result ≡ opened_index order section.now header }
+#[tactic(auto, unfolding(crate::specs::Indexes::opened_index))]
+pub fn open(order: RunTimeEndian, section: &[u8], header: NameIndexHeader) -> Result<Opened, Error>
+    ensures { outcome result ≡ opened_index order section.now header }
 {
-    let offset = header.offset;
-    let index = match NameIndex::new(section, header) {
-        IndexRead::Value(i) => i,
-        IndexRead::Refused(e) => return OpenedRead::Refused(e),
-    };
-    match missed_in(order, section, index) {
-        MissedRead::Value(m) => OpenedRead::Value(Opened {
-            index: index,
-            line: IndexLine {
-                place: offset,
-                name_count: index.name_count,
-                bucket_count: index.bucket_count,
-                missed: m,
-            },
-        }),
-        MissedRead::Refused(e) => OpenedRead::Refused(e),
-    }
+    let index = NameIndex::new(section, header)?;
+    let missed = missed_in(order, section, index)?;
+    Ok(Opened {
+        index,
+        line: IndexLine {
+            place: header.offset,
+            name_count: index.name_count,
+            bucket_count: index.bucket_count,
+            missed,
+        },
+    })
 }

@@ -8,6 +8,6 @@ pub mod name; // the line of a name
 pub mod index_line; // the line of an index
 pub mod lines; // the lines of a section, one after another
 
-pub use index_line::{IndexLine, Missed};
-pub use lines::{Line, ListingIter, ListingStep, section_lines};
-pub use name::{NameHash, NameLine};
+pub use index_line::IndexLine;
+pub use lines::{Line, ListingIter, section_lines};
+pub use name::NameLine;

@@ -35,41 +35,48 @@ const TWO: [u8; 162] = *b"\x31\x00\x00\x00\x05\x00\x00\x00\x01\x00\x00\x00\x00\x
     \x01\x10\x00\x00\x00\x00\x01\x20\x00\x00\x00\x00\x01\x30\x00\x00\x00\x00";
 
 fn main(rt: HostRuntime) -> io::Result<()> {
-    changed(&rt, b"case A\n", 0, 105)?;
-    changed(&rt, b"length 106: the part is missing at 4\n", 0, 106)?;
-    changed(&rt, b"version 4\n", 4, 4)?;
-    changed(&rt, b"C 200: the units do not fit\n", 8, 200)?;
-    changed(&rt, b"N 200: the hashes do not fit\n", 24, 200)?;
-    changed(&rt, b"the form of the attribute is 0\n", 87, 0)?;
-    changed(&rt, b"second start 3\n", 44, 3)?;
-    changed(&rt, b"second start 4\n", 44, 4)?;
-    changed(&rt, b"second start 5\n", 44, 5)?;
-    changed(&rt, b"an unknown form\n", 87, 1)?;
-    changed(&rt, b"entry offset of name 1 past the pool\n", 76, 19)?;
-    changed(&rt, b"entry offset of name 1 at the pool's end\n", 76, 18)?;
-    changed(&rt, b"name 2 has the entry of name 1\n", 80, 6)?;
-    changed(&rt, b"the second entry has another code\n", 97, 9)?;
-    changed(&rt, b"no code 0 after the first entry\n", 96, 1)?;
+    listed(&rt, b"case A\n", CASE_A, 0, 105)?;
+    listed(
+        &rt,
+        b"length 106: the part is missing at 4\n",
+        CASE_A,
+        0,
+        106,
+    )?;
+    listed(&rt, b"version 4\n", CASE_A, 4, 4)?;
+    listed(&rt, b"C 200: the units do not fit\n", CASE_A, 8, 200)?;
+    listed(&rt, b"N 200: the hashes do not fit\n", CASE_A, 24, 200)?;
+    listed(&rt, b"the form of the attribute is 0\n", CASE_A, 87, 0)?;
+    listed(&rt, b"second start 3\n", CASE_A, 44, 3)?;
+    listed(&rt, b"second start 4\n", CASE_A, 44, 4)?;
+    listed(&rt, b"second start 5\n", CASE_A, 44, 5)?;
+    listed(&rt, b"an unknown form\n", CASE_A, 87, 1)?;
+    listed(
+        &rt,
+        b"entry offset of name 1 past the pool\n",
+        CASE_A,
+        76,
+        19,
+    )?;
+    listed(
+        &rt,
+        b"entry offset of name 1 at the pool's end\n",
+        CASE_A,
+        76,
+        18,
+    )?;
+    listed(&rt, b"name 2 has the entry of name 1\n", CASE_A, 80, 6)?;
+    listed(&rt, b"the second entry has another code\n", CASE_A, 97, 9)?;
+    listed(&rt, b"no code 0 after the first entry\n", CASE_A, 96, 1)?;
     changed_twice(&rt, b"version 4, and C 200\n", 4, 4, 8, 200)?;
     changed_twice(&rt, b"the form is 0, and second start 5\n", 87, 0, 44, 5)?;
     changed_twice(&rt, b"second start 5, and an unknown form\n", 44, 5, 87, 1)?;
-    two(&rt, b"no hash table, and case A behind it\n", 0, 49)?;
-    two(&rt, b"version 4 in the second index\n", 57, 4)?;
-    two(&rt, b"second start 5 in the second index\n", 97, 5)?;
-    two(&rt, b"an entry offset past the pool in it\n", 129, 19)?;
+    listed(&rt, b"no hash table, and case A behind it\n", TWO, 0, 49)?;
+    listed(&rt, b"version 4 in the second index\n", TWO, 57, 4)?;
+    listed(&rt, b"second start 5 in the second index\n", TWO, 97, 5)?;
+    listed(&rt, b"an entry offset past the pool in it\n", TWO, 129, 19)?;
     empty(&rt, b"nothing\n")?;
     input(&rt, b"65,536 bytes on standard input\n")
-}
-
-// Case A with one byte changed.
-fn changed(rt: &impl Print, title: &[u8], at: usize, byte: u8) -> io::Result<()> {
-    let mut s = CASE_A;
-    rt.write_all(title)?;
-    if at < s.len() {
-        s[at] = byte;
-        printing::print_listing(rt, &s)?;
-    }
-    Ok(())
 }
 
 // Case A with two bytes changed.
@@ -82,20 +89,23 @@ fn changed_twice(
     its_byte: u8,
 ) -> io::Result<()> {
     let mut s = CASE_A;
-    rt.write_all(title)?;
-    if at < s.len() && other < s.len() {
+    if at < s.len() {
         s[at] = byte;
-        s[other] = its_byte;
-        printing::print_listing(rt, &s)?;
     }
-    Ok(())
+    listed(rt, title, s, other, its_byte)
 }
 
-// The two indexes with one byte changed.
-fn two(rt: &impl Print, title: &[u8], at: usize, byte: u8) -> io::Result<()> {
-    let mut s = TWO;
+// The listing of a section with one byte changed, below its title.
+fn listed<const LEN: usize>(
+    rt: &impl Print,
+    title: &[u8],
+    section: [u8; LEN],
+    at: usize,
+    byte: u8,
+) -> io::Result<()> {
+    let mut s = section;
     rt.write_all(title)?;
-    if at < s.len() {
+    if at < LEN {
         s[at] = byte;
         printing::print_listing(rt, &s)?;
     }

@@ -1,17 +1,23 @@
--- What a program that writes the texts of its steps writes. The law `text-listed` of proofs/TextLaws.antt proves it.
-use Rattle.std.specs.Prelude.{ℕ, ◌≡◌, true, false, List, [], ◌∷◌, map}
+-- What a program that prints the texts of its steps prints. The law `text-listed` of proofs/TextLaws.antt proves it.
+use Rattle.std.specs.Prelude.{ℕ, ◌≡◌, List, [], ◌∷◌, map, Option, Some, None}
 use Rattle.listing.specs.declared.lines.ListingIter.{ListingIter}
 use Rattle.listing.specs.Lines.{first_line}
-use Rattle.line_text.specs.Room.{shown}
+use Rattle.line_text.specs.Text.{text_of}
+use Rattle.line_text.specs.declared.LineText.{LineText}
 use Rattle.listing_text.specs.declared.TextStep.{TextStep}
 use Rattle.listing_text.specs.Listing.{joined, section_text}
 use Rattle.listing_text.specs.Written.{written_of, text_step}
 
--- The steps that a program makes from a cursor on: each is given the cursor of the one before it, and the last is the first after which no line may
--- follow.
+-- The steps that a program makes from a cursor on: each is given the cursor of the one before it, and the last is the first that prints nothing.
 pub data StepsFrom (s : List ℕ) : ListingIter → List TextStep → Type 0 where
-  last_step : {c : ListingIter} {t : TextStep} → written_of t ≡ text_step s c → t.more ≡ false → StepsFrom s c (t ∷ [])
-  step_then : {c : ListingIter} {t : TextStep} {ts : List TextStep} → written_of t ≡ text_step s c → t.more ≡ true → StepsFrom s t.cursor ts → StepsFrom s c (t ∷ ts)
+  last_step : {c : ListingIter} {t : TextStep} → written_of t ≡ text_step s c → ◌≡◌ {A = Option LineText} t.text None → StepsFrom s c (t ∷ [])
+  step_then : {c : ListingIter} {t : TextStep} {ts : List TextStep} {l : LineText} → written_of t ≡ text_step s c → ◌≡◌ {A = Option LineText} t.text (Some l)
+      → StepsFrom s t.cursor ts → StepsFrom s c (t ∷ ts)
+
+-- what a step prints: the text that it gives, or nothing
+abbrev pub shown : Option LineText → List ℕ
+shown None = []
+shown (Some l) = text_of l
 
 -- The texts of these steps, one after another, are the text of the section's listing.
 abbrev pub TextListed : Type 0

@@ -3,7 +3,7 @@ use Prim.Native.Nat.{ℕ, zero, suc, ◌+◌, ◌-◌, ◌≤◌, ◌<◌}
 use mathlib.Core.Path.{◌≡◌, refl, sym, ap, ap₂, ◌∙◌}
 use mathlib.Core.Bool.{Bool, true, false}
 use mathlib.Core.List.{List, [], ◌∷◌, ◌++◌, map}
-use mathlib.Core.Option.{Option}
+use Rattle.std.specs.Prelude.{Option}
 use native.Mathlib.Omega.{arith}
 use lib.ListN.{length, take, replicate}
 use lib.Dec.{ltb, leb}
@@ -17,12 +17,12 @@ use Rattle.reader.specs.declared.common.NameTableIndex.{NameTableIndex}
 use Rattle.index.specs.declared.layout.NameIndex.{NameIndex}
 use Rattle.index.specs.Layout.{Fits, fitted}
 use Rattle.index.proofs.LayoutLaws.{fitted-fits}
-use Rattle.reader.specs.Steps.{Linked, no_steps, step_then}
+use Rattle.reader.specs.Steps.{Linked, no_steps, step_then, Taken, answers, step_of}
 use Rattle.reader.specs.Lists.{numbers_from}
-use Rattle.names.specs.declared.table.NameTableStep.{NameTableStep}
-use Rattle.names.specs.Answers.{name_step_of}
 use Rattle.names.specs.Sanity.{named, the_end, NamesInOrder}
 use Rattle.names.specs.Names.{before, first_name, step_from, name_step, name_string_offset, name_string, name_string_bytes}
+use Rattle.reader.specs.Answers.{outcome}
+use Rattle.names.specs.declared.table.NameTableIter.{NameTableIter}
 
 -- the bytes of the string at an offset; none where the offset is refused
 unfoldable pub offset_bytes : List ℕ → Outcome DebugStrOffset → List ℕ
@@ -84,24 +84,21 @@ after-name i k j h =
 after-end : (i : NameIndex) (k j : ℕ) → i.name_count ≤ k → after i k (suc j) ≡ the_end ∷ after i k j
 unfolding numbers_from
 after-end i k j h =
-    let none : i.name_count - k ≡ 0 = omega arith in
-    rw none refl
+    let left : i.name_count - k ≡ 0 = omega arith in
+    rw left refl
 
 -- the steps from a cursor before name k on, with ends enough
-steps_from : (s : List ℕ) (i : NameIndex) (rs : List NameTableStep) (k j : ℕ) → length s ≤ longest → Fits s i → length rs ≤ j
-    → Linked name_step_of (name_step s i) (before k) rs → map (λ r. (name_step_of r).answer) rs ≡ take (length rs) (after i k j)
+steps_from : (s : List ℕ) (i : NameIndex) (rs : List (Taken NameTableIndex NameTableIter)) (k j : ℕ) → length s ≤ longest → Fits s i → length rs ≤ j
+    → Linked (name_step s i) (before k) rs → answers rs ≡ take (length rs) (after i k j)
 steps_from s i [] k j short fits enough no_steps = refl
 steps_from s i (r ∷ rs) k zero short fits enough linked = absurd (omega arith)
 steps_from s i (r ∷ rs) k (suc j) short fits enough (step_then is linked) =
     by_cases (leb i.name_count k) refl (is ∙ step_fits s i k short fits)
     (λ n m room same. steps_from s i rs n m short fits room (rw (sym same) linked))
   where
-    answers : List (Outcome (Option NameTableIndex))
-    answers = map (λ r. (name_step_of r).answer) rs
-
-    by_cases : (t : Bool) → leb i.name_count k ≡ t → name_step_of r ≡ step_from i k
-        → ((n m : ℕ) → length rs ≤ m → (name_step_of r).cursor ≡ before n → answers ≡ take (length rs) (after i n m))
-        → (name_step_of r).answer ∷ answers ≡ take (suc (length rs)) (after i k (suc j))
+    by_cases : (t : Bool) → leb i.name_count k ≡ t → step_of r.answer r.cursor ≡ step_from i k
+        → ((n m : ℕ) → length rs ≤ m → r.cursor ≡ before n → answers rs ≡ take (length rs) (after i n m))
+        → outcome r.answer ∷ answers rs ≡ take (suc (length rs)) (after i k (suc j))
     by_cases true e step rest =
         let ended : step_from i k ≡ record { answer = the_end; cursor = before k } = step_end i k e in
         rw (after-end i k j (leb-true _ _ e))

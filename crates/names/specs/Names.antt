@@ -1,10 +1,11 @@
 -- The names of an index and their strings: document 01, "Headers and layout" and "Strings". `s` is .debug_names, and `strs`
 -- is .debug_str.
 use Rattle.std.specs.Prelude.{ℕ, ◌+◌, cond, List, length, ltb, leb}
-use Rattle.std.proofs.Math.Option.{some, none}
+use Rattle.std.specs.Prelude.{Some, None}
 use Rattle.reader.specs.Outcome.{Outcome, answered, ◌>>=◌, ◌>>◌, refuse_if}
 use Rattle.reader.specs.Errors.{longest}
-use Rattle.strings.specs.Strings.{Text, get_str, text_bytes}
+use Rattle.strings.specs.Strings.{get_str, text_bytes}
+use Rattle.strings.specs.declared.Str.{Str}
 use Rattle.reader.specs.Steps.{Step, keeping}
 use Rattle.reader.specs.declared.endianity.RunTimeEndian.{RunTimeEndian}
 use Rattle.reader.specs.declared.common.DebugStrOffset.{DebugStrOffset}
@@ -24,8 +25,8 @@ first_name = before 0
 -- the step of a cursor before name k: the end, unmoved, where k is the number of names or more, else name k
 unfoldable pub step_from : NameIndex → ℕ → Step NameTableIndex NameTableIter
 step_from i k = cond (leb i.name_count k)
-    (record { answer = answered none; cursor = before k })
-    (record { answer = answered (some (record { 0 = k })); cursor = before (k + 1) })
+    (record { answer = answered None; cursor = before k })
+    (record { answer = answered (Some (record { 0 = k })); cursor = before (k + 1) })
 
 -- the step; 13 and 14 of the index are tested first, and any cursor fits
 unfoldable pub name_step : List ℕ → NameIndex → NameTableIter → Step NameTableIndex NameTableIter
@@ -41,7 +42,7 @@ name_string_offset order s i name = do
   answered (record { 0 = offset.value })
 
 -- the string of a name: 13 for .debug_names, 13 for .debug_str, 14, the string offset, the string
-unfoldable pub name_string : RunTimeEndian → List ℕ → List ℕ → NameIndex → NameTableIndex → Outcome Text
+unfoldable pub name_string : RunTimeEndian → List ℕ → List ℕ → NameIndex → NameTableIndex → Outcome Str
 name_string order s strs i name = do
   refuse_if (ltb longest (length s)) 13 0
   refuse_if (ltb longest (length strs)) 13 0

@@ -1,8 +1,9 @@
 -- The units of an index: document 01, "Headers and layout". `s` is the section.
-use Rattle.std.specs.Prelude.{ℕ, ◌-◌, ◌*◌, cond, List, ltb, eqb}
+use Rattle.std.specs.Prelude.{ℕ, ◌-◌, ◌*◌, cond, List, ltb, eqb, Option, Some, None}
 use Rattle.reader.specs.Outcome.{Outcome, answered, ◌>>=◌, ◌>>◌}
 use Rattle.reader.specs.Parts.{skipped}
-use Rattle.reader.specs.Numbers.{Read, read_number, word_size}
+use Rattle.reader.specs.Numbers.{read_number, word_size}
+use Rattle.reader.specs.declared.reader.Read.{Read}
 use Rattle.reader.specs.declared.endianity.RunTimeEndian.{RunTimeEndian}
 use Rattle.reader.specs.declared.common.Format.{Format}
 use Rattle.reader.specs.declared.common.DebugInfoOffset.{DebugInfoOffset}
@@ -10,10 +11,9 @@ use Rattle.reader.specs.declared.common.DebugTypeSignature.{DebugTypeSignature}
 use Rattle.index.specs.declared.layout.NameIndex.{NameIndex}
 use Rattle.index.specs.Layout.{word_bytes, fitted}
 use Rattle.names.specs.declared.units.NameTypeUnit.{NameTypeUnit}
-use Rattle.names.specs.declared.units.DefaultUnit.{DefaultUnit}
 
 -- the word of number k in a list of words from `at` up to `end`: skip, then read
-unfoldable pub nth_word : Format → RunTimeEndian → List ℕ → ℕ → ℕ → ℕ → Outcome Read
+unfoldable pub nth_word : Format → RunTimeEndian → List ℕ → ℕ → ℕ → ℕ → Outcome (Read ℕ)
 nth_word format order s at end k = do
   place ← skipped (word_bytes format k) s at end
   read_number (word_size format) order s place end
@@ -53,11 +53,11 @@ nth_type_unit order s i k = cond (ltb k i.local_type_unit_count)
       answered (NameTypeUnit.Foreign signature))
 
 -- the only unit if there is one, else none
-unfoldable pub default_compile_unit : RunTimeEndian → List ℕ → NameIndex → Outcome DefaultUnit
+unfoldable pub default_compile_unit : RunTimeEndian → List ℕ → NameIndex → Outcome (Option DebugInfoOffset)
 default_compile_unit order s i = cond (eqb i.compile_unit_count 1)
     (do
       unit ← nth_compile_unit order s i 0
-      answered (DefaultUnit.Some unit))
+      answered (Some unit))
     (do
       fitted s i
-      answered DefaultUnit.None)
+      answered None)

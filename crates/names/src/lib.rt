@@ -10,15 +10,12 @@ pub mod table; // the names, one after another, and their strings
 pub mod declarations; // the abbreviation of a code
 
 pub use counts::{
-    CountRead, FlagRead, bucket_count, compile_unit_count, foreign_type_unit_count, has_hash_table,
+    bucket_count, compile_unit_count, foreign_type_unit_count, has_hash_table,
     local_type_unit_count, name_count, type_unit_count,
 };
 pub use declarations::get_abbreviation;
-pub use table::{
-    NameTableIter, NameTableStep, StrOffsetRead, name_string, name_string_offset,
-    name_string_slice, names,
-};
+pub use table::{NameTableIter, name_string, name_string_offset, name_string_slice, names};
 pub use units::{
-    DefaultUnit, DefaultUnitRead, NameTypeUnit, SignatureRead, TypeUnitRead, UnitRead,
-    compile_unit, default_compile_unit, foreign_type_unit, local_type_unit, nth_word, type_unit,
+    NameTypeUnit, compile_unit, default_compile_unit, foreign_type_unit, local_type_unit, nth_word,
+    type_unit,
 };

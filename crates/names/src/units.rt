@@ -1,29 +1,17 @@
 // The units of an index (gimli's `compile_unit`, `local_type_unit`, `foreign_type_unit`, `type_unit` and `default_compile_unit`).
 //
 // A unit's number is skipped to and then read: a number equal to the count is refused at the list's end, and a larger one at the
-// list's start.
+// list's start. Compile units and local type units are two calls, as in gimli, over the same `unit_in`.
+// (order, section, index) stay parameters: with a struct that lends the section, contracts are no plainer (docs/DECISIONS.md).
 ghost use Rattle.std.specs.Prelude.{◌≡◌};
-ghost use Rattle.reader.specs.Answers.{word_outcome};
-ghost use Rattle.names.specs.Answers.{unit_outcome, signature_outcome, type_unit_outcome, default_unit_outcome};
+ghost use Rattle.reader.specs.Answers.{outcome};
 ghost use Rattle.names.specs.Units.{nth_word, unit_in, nth_compile_unit, local_type_unit, foreign_type_unit, nth_type_unit, default_compile_unit};
 
-use index::{NameIndex, PartsRead, fit, words};
+use index::{NameIndex, fit, words};
 use reader::{
-    DebugInfoOffset, DebugTypeSignature, Error, Format, RunTimeEndian, Skipped, U64Read, WordRead,
-    read_offset, read_u64, skip,
+    DebugInfoOffset, DebugTypeSignature, Error, Format, Read, RunTimeEndian, read_number,
+    read_offset, skip,
 };
-
-#[derive(Clone, Copy)]
-pub enum UnitRead {
-    Value(DebugInfoOffset),
-    Refused(Error),
-}
-
-#[derive(Clone, Copy)]
-pub enum SignatureRead {
-    Value(DebugTypeSignature),
-    Refused(Error),
-}
 
 // A type unit: the offset of a local one, or the signature of a foreign one.
 #[derive(Clone, Copy)]
@@ -32,26 +20,8 @@ pub enum NameTypeUnit {
     Foreign(DebugTypeSignature),
 }
 
-#[derive(Clone, Copy)]
-pub enum TypeUnitRead {
-    Value(NameTypeUnit),
-    Refused(Error),
-}
-
-// The only compile unit of an index, or none where it has another number of them.
-#[derive(Clone, Copy)]
-pub enum DefaultUnit {
-    Some(DebugInfoOffset),
-    None,
-}
-
-#[derive(Clone, Copy)]
-pub enum DefaultUnitRead {
-    Value(DefaultUnit),
-    Refused(Error),
-}
-
 // The word of that number, counted from 0, in a list of words from `at` up to `end`.
+#[tactic(auto, unfolding(crate::specs::Units::nth_word))]
 pub fn nth_word(
     format: Format,
     order: RunTimeEndian,
@@ -59,16 +29,15 @@ pub fn nth_word(
     at: usize,
     end: usize,
     number: u32,
-) -> WordRead
-    ensures { word_outcome result ≡ nth_word format order s.now at end number }
+) -> Result<Read<usize>, Error>
+    ensures { outcome result ≡ nth_word format order s.now at end number }
 {
-    match skip(words(format, number), s, at, end) {
-        Skipped::To(place) => read_offset(format, order, s, place, end),
-        Skipped::Refused(e) => WordRead::Refused(e),
-    }
+    let place = skip(words(format, number), s, at, end)?;
+    read_offset(format, order, s, place, end)
 }
 
 // The unit of that number in a list of .debug_info offsets from `at` up to `end`.
+#[tactic(auto, unfolding(crate::specs::Units::unit_in))]
 fn unit_in(
     format: Format,
     order: RunTimeEndian,
@@ -76,115 +45,111 @@ fn unit_in(
     at: usize,
     end: usize,
     number: u32,
-) -> UnitRead
-    ensures { unit_outcome result ≡ unit_in format order s.now at end number }
+) -> Result<DebugInfoOffset, Error>
+    ensures { outcome result ≡ unit_in format order s.now at end number }
 {
-    match nth_word(format, order, s, at, end, number) {
-        WordRead::Value(w) => UnitRead::Value(DebugInfoOffset(w.value)),
-        WordRead::Refused(e) => UnitRead::Refused(e),
-    }
+    let w = nth_word(format, order, s, at, end, number)?;
+    Ok(DebugInfoOffset(w.value))
 }
 
 // The .debug_info offset of a compile unit.
-pub fn compile_unit(order: RunTimeEndian, section: &[u8], index: NameIndex, number: u32) -> UnitRead
-    ensures { unit_outcome result ≡ nth_compile_unit order section.now index number }
+#[tactic(auto, unfolding(crate::specs::Units::nth_compile_unit))]
+pub fn compile_unit(
+    order: RunTimeEndian,
+    section: &[u8],
+    index: NameIndex,
+    number: u32,
+) -> Result<DebugInfoOffset, Error>
+    ensures { outcome result ≡ nth_compile_unit order section.now index number }
 {
-    let format = index.format;
-    match fit(section, index) {
-        PartsRead::Value(p) => {
-            let end = p.local_type_unit_list;
-            unit_in(format, order, section, p.compile_unit_list, end, number)
-        }
-        PartsRead::Refused(e) => UnitRead::Refused(e),
-    }
+    let p = fit(section, index)?;
+    let end = p.local_type_unit_list;
+    unit_in(
+        index.format,
+        order,
+        section,
+        p.compile_unit_list,
+        end,
+        number,
+    )
 }
 
 // The .debug_info offset of a local type unit.
+#[tactic(auto, unfolding(crate::specs::Units::local_type_unit))]
 pub fn local_type_unit(
     order: RunTimeEndian,
     section: &[u8],
     index: NameIndex,
     number: u32,
-) -> UnitRead
-    ensures { unit_outcome result ≡ local_type_unit order section.now index number }
+) -> Result<DebugInfoOffset, Error>
+    ensures { outcome result ≡ local_type_unit order section.now index number }
 {
-    let format = index.format;
-    match fit(section, index) {
-        PartsRead::Value(p) => {
-            let end = p.foreign_type_unit_list;
-            unit_in(format, order, section, p.local_type_unit_list, end, number)
-        }
-        PartsRead::Refused(e) => UnitRead::Refused(e),
-    }
+    let p = fit(section, index)?;
+    let end = p.foreign_type_unit_list;
+    unit_in(
+        index.format,
+        order,
+        section,
+        p.local_type_unit_list,
+        end,
+        number,
+    )
 }
 
 // The signature of a foreign type unit.
+#[tactic(auto, unfolding(crate::specs::Units::foreign_type_unit))]
 pub fn foreign_type_unit(
     order: RunTimeEndian,
     section: &[u8],
     index: NameIndex,
     number: u32,
-) -> SignatureRead
-    ensures { signature_outcome result ≡ foreign_type_unit order section.now index number }
+) -> Result<DebugTypeSignature, Error>
+    ensures { outcome result ≡ foreign_type_unit order section.now index number }
 {
-    let p = match fit(section, index) {
-        PartsRead::Value(p) => p,
-        PartsRead::Refused(e) => return SignatureRead::Refused(e),
-    };
+    let p = fit(section, index)?;
     let end = p.bucket_data;
-    let place = match skip(
+    let place = skip(
         8 * (number as usize),
         section,
         p.foreign_type_unit_list,
         end,
-    ) {
-        Skipped::To(next) => next,
-        Skipped::Refused(e) => return SignatureRead::Refused(e),
-    };
-    match read_u64(order, section, place, end) {
-        U64Read::Value(r) => SignatureRead::Value(DebugTypeSignature(r.value)),
-        U64Read::Refused(e) => SignatureRead::Refused(e),
-    }
+    )?;
+    let r = read_number::<u64>(order, section, place, end)?;
+    Ok(DebugTypeSignature(r.value))
 }
 
 // The type unit of a number: local numbers come first, then foreign ones.
+#[tactic(auto, unfolding(crate::specs::Units::nth_type_unit))]
 pub fn type_unit(
     order: RunTimeEndian,
     section: &[u8],
     index: NameIndex,
     number: u32,
-) -> TypeUnitRead
-    ensures { type_unit_outcome result ≡ nth_type_unit order section.now index number }
+) -> Result<NameTypeUnit, Error>
+    ensures { outcome result ≡ nth_type_unit order section.now index number }
 {
     let local = index.local_type_unit_count;
     if number < local {
-        return match local_type_unit(order, section, index, number) {
-            UnitRead::Value(u) => TypeUnitRead::Value(NameTypeUnit::Local(u)),
-            UnitRead::Refused(e) => TypeUnitRead::Refused(e),
-        };
+        let u = local_type_unit(order, section, index, number)?;
+        return Ok(NameTypeUnit::Local(u));
     }
-    match foreign_type_unit(order, section, index, number - local) {
-        SignatureRead::Value(t) => TypeUnitRead::Value(NameTypeUnit::Foreign(t)),
-        SignatureRead::Refused(e) => TypeUnitRead::Refused(e),
-    }
+    let t = foreign_type_unit(order, section, index, number - local)?;
+    Ok(NameTypeUnit::Foreign(t))
 }
 
 // The only compile unit: entries of such an index need not name it.
+#[tactic(auto, unfolding(crate::specs::Units::default_compile_unit))]
 pub fn default_compile_unit(
     order: RunTimeEndian,
     section: &[u8],
     index: NameIndex,
-) -> DefaultUnitRead
-    ensures { default_unit_outcome result ≡ default_compile_unit order section.now index }
+) -> Result<Option<DebugInfoOffset>, Error>
+    ensures { outcome result ≡ default_compile_unit order section.now index }
 {
     if index.compile_unit_count == 1 {
-        return match compile_unit(order, section, index, 0) {
-            UnitRead::Value(u) => DefaultUnitRead::Value(DefaultUnit::Some(u)),
-            UnitRead::Refused(e) => DefaultUnitRead::Refused(e),
-        };
+        let u = compile_unit(order, section, index, 0)?;
+        return Ok(Some(u));
     }
-    match fit(section, index) {
-        PartsRead::Value(_) => DefaultUnitRead::Value(DefaultUnit::None),
-        PartsRead::Refused(e) => DefaultUnitRead::Refused(e),
-    }
+    fit(section, index)?;
+    Ok(None)
 }

@@ -1,158 +1,187 @@
 // How many sections, refusals of each number, and lines of each call were written; the last lines say it.
-use crate::line;
 use reader::Error;
 use std::io;
 
-// The sections are counted at 0, the refusals at their numbers, which are at most 14, and the calls from 15 on.
-pub type Tally = [u64; 43];
+// The calls by their words, in the order of the last lines.
+const CALLS: [&[u8]; 28] = [
+    b"header",
+    b"end",
+    b"index",
+    b"counts",
+    b"compile_unit",
+    b"local_type_unit",
+    b"foreign_type_unit",
+    b"type_unit",
+    b"default_compile_unit",
+    b"names",
+    b"string_offset",
+    b"string",
+    b"abbreviation",
+    b"find_by_bucket",
+    b"next_in_bucket",
+    b"find_by_hash",
+    b"next_of_hash",
+    b"table",
+    b"name_entries",
+    b"next",
+    b"name_entry",
+    b"entry_compile_unit",
+    b"entry_type_unit",
+    b"die_offset",
+    b"parent",
+    b"type_hash",
+    b"query",
+    b"record",
+];
 
-pub const SECTIONS: usize = 0;
+// The refusals are counted at their numbers, which are at most 14, and the calls at the places of their words.
+#[derive(Drop)]
+pub struct Tally {
+    sections: u64,
+    refusals: [u64; 15],
+    calls: [u64; 28],
+}
 
-pub const HEADER: usize = 15;
+// One more.
+fn add(n: &mut u64) {
+    *n = n.wrapping_add(1);
+}
 
-pub const END: usize = 16;
+impl Tally {
+    // (Written out, since an array of 28 has no `Default`.)
+    pub fn new() -> Tally {
+        Tally {
+            sections: 0,
+            refusals: [0; 15],
+            calls: [0; 28],
+        }
+    }
 
-pub const INDEX: usize = 17;
+    // A section.
+    pub fn section(&mut self) {
+        add(&mut self.sections);
+    }
 
-pub const COUNTS: usize = 18;
+    // A call that has this word.
+    pub fn count(&mut self, word: &[u8]) {
+        for (n, known) in self.calls.iter_mut().zip(CALLS) {
+            if known == word {
+                add(n);
+            }
+        }
+    }
 
-pub const COMPILE_UNIT: usize = 19;
+    // The first word of a line, by which the line is counted.
+    pub fn call(&mut self, rt: &impl Print, word: &[u8]) -> io::Result<()> {
+        self.count(word);
+        show::text(rt, word)
+    }
 
-pub const LOCAL_TYPE_UNIT: usize = 20;
+    // The same with the number that the call was given.
+    pub fn call_of(&mut self, rt: &impl Print, word: &[u8], argument: u64) -> io::Result<()> {
+        self.call(rt, word)?;
+        print!(rt; " {argument}")
+    }
 
-pub const FOREIGN_TYPE_UNIT: usize = 21;
+    // A refusal.
+    pub fn count_refusal(&mut self, e: Error) {
+        if let Some(n) = self.refusals.get_mut(e.number() as usize) {
+            add(n);
+        }
+    }
 
-pub const TYPE_UNIT: usize = 22;
+    // The same, at the end of a line.
+    pub fn refused(&mut self, rt: &impl Print, e: Error) -> io::Result<()> {
+        self.count_refusal(e);
+        show::refused(rt, e)
+    }
 
-pub const DEFAULT_COMPILE_UNIT: usize = 23;
+    // What a call answered, in a form of its own, or its refusal.
+    pub fn answer<T, F: FnOnce(T) -> io::Result<()> + Drop>(
+        &mut self,
+        rt: &impl Print,
+        r: Result<T, Error>,
+        form: F,
+    ) -> io::Result<()>
+        requires { F.IsAlwaysCallable form }
+    {
+        match r {
+            Ok(v) => form(v),
+            Err(e) => self.refused(rt, e),
+        }
+    }
 
-pub const NAMES: usize = 24;
+    // The same, of some numbers.
+    pub fn numbers<const N: usize>(
+        &mut self,
+        rt: &impl Print,
+        r: Result<[u64; N], Error>,
+    ) -> io::Result<()> {
+        self.answer(rt, r, |all| line(rt, &all))
+    }
 
-pub const STRING_OFFSET: usize = 25;
+    // The same where there may be none.
+    pub fn found<const N: usize>(
+        &mut self,
+        rt: &impl Print,
+        r: Result<Option<[u64; N]>, Error>,
+    ) -> io::Result<()> {
+        self.answer(rt, r, |found| match found {
+            Some(all) => line(rt, &all),
+            None => show::text(rt, b" -\n"),
+        })
+    }
 
-pub const STRING: usize = 26;
+    // What a step answered, the end, or its refusal; and whether it gave something.
+    pub fn step<const N: usize>(
+        &mut self,
+        rt: &impl Print,
+        r: Result<Option<[u64; N]>, Error>,
+    ) -> io::Result<bool> {
+        match r {
+            Ok(Some(all)) => line(rt, &all)?,
+            Ok(None) => show::text(rt, b" end\n")?,
+            Err(e) => self.refused(rt, e)?,
+        }
+        Ok(matches!(r, Ok(Some(_))))
+    }
 
-pub const ABBREVIATION: usize = 27;
-
-pub const FIND_BY_BUCKET: usize = 28;
-
-pub const NEXT_IN_BUCKET: usize = 29;
-
-pub const FIND_BY_HASH: usize = 30;
-
-pub const NEXT_OF_HASH: usize = 31;
-
-pub const TABLE: usize = 32;
-
-pub const NAME_ENTRIES: usize = 33;
-
-pub const NEXT: usize = 34;
-
-pub const NAME_ENTRY: usize = 35;
-
-pub const ENTRY_COMPILE_UNIT: usize = 36;
-
-pub const ENTRY_TYPE_UNIT: usize = 37;
-
-pub const DIE_OFFSET: usize = 38;
-
-pub const PARENT: usize = 39;
-
-pub const TYPE_HASH: usize = 40;
-
-pub const QUERY: usize = 41;
-
-pub const RECORD: usize = 42;
-
-// One more at a place.
-pub fn add(t: &mut Tally, place: usize) {
-    if place < 43 {
-        let n = t[place];
-        t[place] = std::num::wrapping_add_u64(n, 1);
+    // The last lines.
+    pub fn totals(&self, rt: &impl Print) -> io::Result<()> {
+        println!(rt; "sections {}", self.sections)?;
+        for number in 1..13 {
+            println!(rt; "refused {number} {}", self.refusals[number])?;
+        }
+        for (n, word) in self.calls.iter().zip(CALLS) {
+            show::text(rt, word)?;
+            println!(rt; " {n}")?;
+        }
+        Ok(())
     }
 }
 
-// The first word of a line, by which the line is counted.
-pub fn call(rt: &impl Print, t: &mut Tally, place: usize) -> io::Result<()> {
-    add(t, place);
-    word(rt, place)
+// Numbers, at the end of a line.
+pub fn line(rt: &impl Print, all: &[u64]) -> io::Result<()> {
+    show::numbers(rt, all)?;
+    show::text(rt, b"\n")
 }
 
-// The same with the number that the call was given.
-pub fn call_of(rt: &impl Print, t: &mut Tally, place: usize, argument: u64) -> io::Result<()> {
-    call(rt, t, place)?;
-    line::number(rt, argument)
-}
-
-// A refusal, at the end of a line.
-pub fn refused(rt: &impl Print, t: &mut Tally, e: Error) -> io::Result<()> {
-    add(t, e.number() as usize);
-    show::refused(rt, e)
-}
-
-// The last lines.
-pub fn totals(rt: &impl Print, t: &Tally) -> io::Result<()> {
-    show::text(rt, b"sections")?;
-    total(rt, t, SECTIONS)?;
-    refusals(rt, t)?;
-    calls(rt, t)
-}
-
-fn refusals(rt: &impl Print, t: &Tally) -> io::Result<()> {
-    for number in 1..13 {
-        show::text(rt, b"refused")?;
-        line::number(rt, number as u64)?;
-        total(rt, t, number)?;
+// Steps of a cursor: at most `most` up to the first that gives nothing, and then `more` after it. A step says whether it gave something.
+pub fn steps<F: FnMut(&mut Tally) -> io::Result<bool> + Drop>(
+    t: &mut Tally,
+    most: u32,
+    more: u32,
+    mut step: F,
+) -> io::Result<()>
+    requires { F.IsAlwaysCallable step }
+{
+    for _ in 0..most {
+        if !step(t)? {
+            for _ in 0..more {
+                step(t)?;
+            }
+            break;
+        }
     }
     Ok(())
-}
-
-fn calls(rt: &impl Print, t: &Tally) -> io::Result<()> {
-    for place in HEADER..43 {
-        word(rt, place)?;
-        total(rt, t, place)?;
-    }
-    Ok(())
-}
-
-fn total(rt: &impl Print, t: &Tally, place: usize) -> io::Result<()> {
-    if place < 43 {
-        line::answered(rt, t[place])?;
-    }
-    Ok(())
-}
-
-// The name of a call.
-fn word(rt: &impl Print, place: usize) -> io::Result<()> {
-    match place {
-        HEADER => show::text(rt, b"header"),
-        END => show::text(rt, b"end"),
-        INDEX => show::text(rt, b"index"),
-        COUNTS => show::text(rt, b"counts"),
-        COMPILE_UNIT => show::text(rt, b"compile_unit"),
-        LOCAL_TYPE_UNIT => show::text(rt, b"local_type_unit"),
-        FOREIGN_TYPE_UNIT => show::text(rt, b"foreign_type_unit"),
-        TYPE_UNIT => show::text(rt, b"type_unit"),
-        DEFAULT_COMPILE_UNIT => show::text(rt, b"default_compile_unit"),
-        NAMES => show::text(rt, b"names"),
-        STRING_OFFSET => show::text(rt, b"string_offset"),
-        STRING => show::text(rt, b"string"),
-        ABBREVIATION => show::text(rt, b"abbreviation"),
-        FIND_BY_BUCKET => show::text(rt, b"find_by_bucket"),
-        NEXT_IN_BUCKET => show::text(rt, b"next_in_bucket"),
-        FIND_BY_HASH => show::text(rt, b"find_by_hash"),
-        NEXT_OF_HASH => show::text(rt, b"next_of_hash"),
-        TABLE => show::text(rt, b"table"),
-        NAME_ENTRIES => show::text(rt, b"name_entries"),
-        NEXT => show::text(rt, b"next"),
-        NAME_ENTRY => show::text(rt, b"name_entry"),
-        ENTRY_COMPILE_UNIT => show::text(rt, b"entry_compile_unit"),
-        ENTRY_TYPE_UNIT => show::text(rt, b"entry_type_unit"),
-        DIE_OFFSET => show::text(rt, b"die_offset"),
-        PARENT => show::text(rt, b"parent"),
-        TYPE_HASH => show::text(rt, b"type_hash"),
-        QUERY => show::text(rt, b"query"),
-        RECORD => show::text(rt, b"record"),
-        _ => Ok(()),
-    }
 }

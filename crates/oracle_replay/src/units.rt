@@ -1,183 +1,89 @@
 // How many units, buckets and names an index has, and its units by their numbers.
-use crate::tally::Tally;
-use crate::{line, tally};
+use crate::tally::{Tally, line};
 use index::NameIndex;
+use lent_records::Lent;
 use names::{
-    CountRead, DefaultUnit, DefaultUnitRead, FlagRead, NameTypeUnit, SignatureRead, TypeUnitRead,
-    UnitRead, bucket_count, compile_unit, compile_unit_count, default_compile_unit,
+    NameTypeUnit, bucket_count, compile_unit, compile_unit_count, default_compile_unit,
     foreign_type_unit, foreign_type_unit_count, has_hash_table, local_type_unit,
     local_type_unit_count, name_count, type_unit, type_unit_count,
 };
-use reader::RunTimeEndian;
+use reader::Error;
 use std::io;
 
-// The lists of units.
-#[derive(Clone, Copy)]
-enum Kind {
-    Compile,
-    Local,
-    Foreign,
-    Type,
-}
-
 // The counts, and then the units.
-pub fn units(
-    rt: &impl Print,
-    order: RunTimeEndian,
-    s: &[u8],
-    index: NameIndex,
-    t: &mut Tally,
-) -> io::Result<()> {
+pub fn units(rt: &impl Print, on: Lent, index: NameIndex, t: &mut Tally) -> io::Result<()> {
+    let (order, s) = (on.order, on.section);
     counts(rt, s, index, t)?;
-    let compile = compile_unit_count(s, index);
-    list(rt, Kind::Compile, order, s, index, compile, t)?;
-    let local = local_type_unit_count(s, index);
-    list(rt, Kind::Local, order, s, index, local, t)?;
-    let foreign = foreign_type_unit_count(s, index);
-    list(rt, Kind::Foreign, order, s, index, foreign, t)?;
-    let both = type_unit_count(s, index);
-    list(rt, Kind::Type, order, s, index, both, t)?;
-    default(rt, order, s, index, t)
+    let count = compile_unit_count(s, index);
+    list(rt, b"compile_unit", count, t, |n| {
+        compile_unit(order, s, index, n).map(|u| [u.0 as u64])
+    })?;
+    let count = local_type_unit_count(s, index);
+    list(rt, b"local_type_unit", count, t, |n| {
+        local_type_unit(order, s, index, n).map(|u| [u.0 as u64])
+    })?;
+    let count = foreign_type_unit_count(s, index);
+    list(rt, b"foreign_type_unit", count, t, |n| {
+        foreign_type_unit(order, s, index, n).map(|u| [u.0])
+    })?;
+    for number in 0..asked(type_unit_count(s, index)) {
+        t.call_of(rt, b"type_unit", number as u64)?;
+        t.answer(
+            rt,
+            type_unit(order, s, index, number),
+            |u| type_unit_line(rt, u),
+        )?;
+    }
+    t.call(rt, b"default_compile_unit")?;
+    t.found(
+        rt,
+        default_compile_unit(order, s, index).map(|unit| unit.map(|u| [u.0 as u64])),
+    )
 }
 
+// The counts, and whether there is a hash table, on one line.
 fn counts(rt: &impl Print, s: &[u8], index: NameIndex, t: &mut Tally) -> io::Result<()> {
-    tally::call(rt, t, tally::COUNTS)?;
+    t.call(rt, b"counts")?;
     count(rt, compile_unit_count(s, index), t)?;
     count(rt, local_type_unit_count(s, index), t)?;
     count(rt, foreign_type_unit_count(s, index), t)?;
     count(rt, type_unit_count(s, index), t)?;
     count(rt, bucket_count(s, index), t)?;
     count(rt, name_count(s, index), t)?;
-    flag(rt, has_hash_table(s, index), t)?;
-    line::end(rt)
+    count(rt, has_hash_table(s, index), t)?;
+    line(rt, &[])
 }
 
-fn count(rt: &impl Print, r: CountRead, t: &mut Tally) -> io::Result<()> {
-    match r {
-        CountRead::Value(n) => line::number(rt, n as u64),
-        CountRead::Refused(e) => tally::refused(rt, t, e),
-    }
-}
-
-fn flag(rt: &impl Print, r: FlagRead, t: &mut Tally) -> io::Result<()> {
-    match r {
-        FlagRead::Value(b) => line::number(rt, bit(b)),
-        FlagRead::Refused(e) => tally::refused(rt, t, e),
-    }
-}
-
-fn bit(b: bool) -> u64 {
-    if b { 1 } else { 0 }
+// A count, or a flag as 0 or 1.
+fn count<N: Into<u64>>(rt: &impl Print, r: Result<N, Error>, t: &mut Tally) -> io::Result<()> {
+    t.answer(rt, r, |n| show::numbers(rt, &[n.into()]))
 }
 
 // How many numbers of a list are asked for: those of the list, as far as there are no more than 40, and two past the last.
-pub fn asked(r: CountRead) -> u32 {
-    match r {
-        CountRead::Value(n) => at_most(n),
-        CountRead::Refused(_) => 0,
-    }
-}
-
-fn at_most(n: u32) -> u32 {
-    if n < 40 { n + 2 } else { 42 }
+pub fn asked(r: Result<u32, Error>) -> u32 {
+    r.map_or(0, |n| n.min(40) + 2)
 }
 
 // The units of a list, by their numbers.
-fn list(
+fn list<F: Fn(u32) -> Result<[u64; 1], Error> + Drop>(
     rt: &impl Print,
-    kind: Kind,
-    order: RunTimeEndian,
-    s: &[u8],
-    index: NameIndex,
-    count: CountRead,
+    word: &[u8],
+    count: Result<u32, Error>,
     t: &mut Tally,
-) -> io::Result<()> {
+    unit: F,
+) -> io::Result<()>
+    requires { F.IsAlwaysCallable unit }
+{
     for number in 0..asked(count) {
-        unit(rt, kind, order, s, index, number, t)?;
+        t.call_of(rt, word, number as u64)?;
+        t.numbers(rt, unit(number))?;
     }
     Ok(())
 }
 
-fn unit(
-    rt: &impl Print,
-    kind: Kind,
-    order: RunTimeEndian,
-    s: &[u8],
-    index: NameIndex,
-    number: u32,
-    t: &mut Tally,
-) -> io::Result<()> {
-    match kind {
-        Kind::Compile => {
-            tally::call_of(rt, t, tally::COMPILE_UNIT, number as u64)?;
-            offset(rt, compile_unit(order, s, index, number), t)
-        }
-        Kind::Local => {
-            tally::call_of(rt, t, tally::LOCAL_TYPE_UNIT, number as u64)?;
-            offset(rt, local_type_unit(order, s, index, number), t)
-        }
-        Kind::Foreign => {
-            tally::call_of(rt, t, tally::FOREIGN_TYPE_UNIT, number as u64)?;
-            signature(rt, foreign_type_unit(order, s, index, number), t)
-        }
-        Kind::Type => {
-            tally::call_of(rt, t, tally::TYPE_UNIT, number as u64)?;
-            either(rt, type_unit(order, s, index, number), t)
-        }
-    }
-}
-
-fn offset(rt: &impl Print, r: UnitRead, t: &mut Tally) -> io::Result<()> {
-    match r {
-        UnitRead::Value(u) => line::answered(rt, u.0 as u64),
-        UnitRead::Refused(e) => tally::refused(rt, t, e),
-    }
-}
-
-fn signature(rt: &impl Print, r: SignatureRead, t: &mut Tally) -> io::Result<()> {
-    match r {
-        SignatureRead::Value(v) => line::answered(rt, v.0),
-        SignatureRead::Refused(e) => tally::refused(rt, t, e),
-    }
-}
-
-fn either(rt: &impl Print, r: TypeUnitRead, t: &mut Tally) -> io::Result<()> {
-    match r {
-        TypeUnitRead::Value(u) => type_unit_line(rt, u),
-        TypeUnitRead::Refused(e) => tally::refused(rt, t, e),
-    }
-}
-
 pub fn type_unit_line(rt: &impl Print, u: NameTypeUnit) -> io::Result<()> {
     match u {
-        NameTypeUnit::Local(o) => {
-            show::text(rt, b" local")?;
-            line::answered(rt, o.0 as u64)
-        }
-        NameTypeUnit::Foreign(v) => {
-            show::text(rt, b" foreign")?;
-            line::answered(rt, v.0)
-        }
-    }
-}
-
-fn default(
-    rt: &impl Print,
-    order: RunTimeEndian,
-    s: &[u8],
-    index: NameIndex,
-    t: &mut Tally,
-) -> io::Result<()> {
-    tally::call(rt, t, tally::DEFAULT_COMPILE_UNIT)?;
-    match default_compile_unit(order, s, index) {
-        DefaultUnitRead::Value(u) => default_line(rt, u),
-        DefaultUnitRead::Refused(e) => tally::refused(rt, t, e),
-    }
-}
-
-fn default_line(rt: &impl Print, u: DefaultUnit) -> io::Result<()> {
-    match u {
-        DefaultUnit::Some(o) => line::answered(rt, o.0 as u64),
-        DefaultUnit::None => show::text(rt, b" -\n"),
+        NameTypeUnit::Local(o) => println!(rt; " local {}", o.0),
+        NameTypeUnit::Foreign(v) => println!(rt; " foreign {}", v.0),
     }
 }

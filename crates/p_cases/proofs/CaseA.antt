@@ -21,7 +21,7 @@ use Rattle.names.specs.Units.{nth_word, unit_in, nth_compile_unit}
 use Rattle.names.specs.Names.{name_string_offset, name_string, name_string_bytes}
 use Rattle.names.specs.Declarations.{get_abbreviation}
 use Rattle.forms.specs.Forms.{as_flag, as_unsigned, as_offset, form_value}
-use Rattle.attributes.specs.Attributes.{values, kept, no_attribute, first}
+use Rattle.attributes.specs.Attributes.{values, first}
 use Rattle.attributes.specs.Meaning.{die_offset_of, die_offset_in, parent_of, parent_in}
 use Rattle.entries.specs.Entries.{entry, name_entry}
 use Rattle.entries.specs.Series.{series_start, series_entry, entries_from, series, name_entries, moved, step_showing, entry_step}
@@ -73,15 +73,15 @@ unfolding case_a index_a name_entries series_start nth_word fitted parts place p
 cursors_of_a = refl
 
 pub series_of_a_lem : SeriesOfA
-unfolding case_a index_a series series_start series_entry entries_from answers_of nth_word entry values kept no_attribute first form_value as_flag as_unsigned as_offset read_byte find table listing declaration with_attributes head attributes attributes_in pair leb128 number_of_bytes number_bytes complete base128 fitted parts place places_from sizes word_bytes hash_bytes longest read_number skipped spelled digits
+unfolding case_a index_a series series_start series_entry entries_from answers_of nth_word entry values first form_value as_flag as_unsigned as_offset read_byte find table listing declaration with_attributes head attributes attributes_in pair leb128 number_of_bytes number_bytes complete base128 fitted parts place places_from sizes word_bytes hash_bytes longest read_number skipped spelled digits
 series_of_a_lem = refl
 
 pub steps_of_a_lem : StepsOfA
-unfolding case_a index_a entry_step step_showing moved series_entry entry values kept no_attribute first form_value as_flag as_unsigned as_offset read_byte find table listing declaration with_attributes head attributes attributes_in pair leb128 number_of_bytes number_bytes complete base128 fitted parts place places_from sizes word_bytes hash_bytes longest read_number skipped spelled digits
+unfolding case_a index_a entry_step step_showing moved series_entry entry values first form_value as_flag as_unsigned as_offset read_byte find table listing declaration with_attributes head attributes attributes_in pair leb128 number_of_bytes number_bytes complete base128 fitted parts place places_from sizes word_bytes hash_bytes longest read_number skipped spelled digits
 steps_of_a_lem = step_then refl (step_then refl (step_then refl no_steps))
 
 pub facts_of_a : FactsOfA
-unfolding case_a index_a entry_die_offset entry_parent die_offset_of die_offset_in parent_of parent_in entry name_entry values kept no_attribute first form_value as_flag as_unsigned as_offset read_byte find table listing declaration with_attributes head attributes attributes_in pair leb128 number_of_bytes number_bytes complete base128 fitted parts place places_from sizes word_bytes hash_bytes longest read_number skipped spelled digits
+unfolding case_a index_a entry_die_offset entry_parent die_offset_of die_offset_in parent_of parent_in entry name_entry values first form_value as_flag as_unsigned as_offset read_byte find table listing declaration with_attributes head attributes attributes_in pair leb128 number_of_bytes number_bytes complete base128 fitted parts place places_from sizes word_bytes hash_bytes longest read_number skipped spelled digits
 facts_of_a = (refl, refl)
 
 pub buckets_of_a : BucketsOfA
@@ -123,5 +123,5 @@ unfolding case_a index_a all_below
 lent_a = (bytes_below case_a refl, omega arith)
 
 pub listing_of_a : ListingOfA
-unfolding case_a second_start section_lines header_lines name_lines name_line name_hash entry_count counted opened_index missed_in headers_from header_at header header_cut header_body counts augmentation initial_length read_number skipped cut spelled digits name_index index_of cut_parts passed_over parts place places_from sizes word_bytes hash_bytes longest parsed ending table listing declaration with_attributes head attributes attributes_in pair leb128 number_of_bytes number_bytes complete base128 series series_start series_entry entries_from nth_word entry values kept no_attribute first form_value as_flag as_unsigned as_offset read_byte find fitted nth_of stored_start stored_hash bucket_of names_from run_from from_start run numbers_from filterb take_while memberb number_at start_above any_above is_missed missed_names verdict table_check name_string_offset
+unfolding case_a second_start section_lines header_lines name_lines name_line name_hash entry_count counted opened_index missed_in headers_from header_at header header_cut header_body counts augmentation initial_length read_number skipped cut spelled digits name_index index_of cut_parts passed_over parts place places_from sizes word_bytes hash_bytes longest parsed ending table listing declaration with_attributes head attributes attributes_in pair leb128 number_of_bytes number_bytes complete base128 series series_start series_entry entries_from nth_word entry values first form_value as_flag as_unsigned as_offset read_byte find fitted nth_of stored_start stored_hash bucket_of names_from run_from from_start run numbers_from filterb take_while memberb number_at start_above any_above is_missed missed_names verdict table_check name_string_offset
 listing_of_a = (refl, refl)

@@ -1,15 +1,13 @@
 -- Document 01's case A: its bytes, what the definitions say of its header, its parts, its units, its names, its abbreviations, its
 -- entries and its hash table, that it fits, and that `name_entries`, `find_by_bucket` and `find_by_hash` give cursors with linked steps, so
 -- that the theorems which suppose this speak of a real index.
-use Rattle.std.specs.Prelude.{ℕ, ◌^◌, ◌≤◌, ◌<◌, ◌≡◌, List, [], ◌∷◌, ◌++◌, length, take, drop}
-use Rattle.std.proofs.Math.Option.{Option, some}
+use Rattle.std.specs.Prelude.{ℕ, ◌^◌, ◌≤◌, ◌<◌, ◌≡◌, List, [], ◌∷◌, ◌++◌, length, take, drop, None, Ok}
+use Rattle.std.specs.Prelude.{Option, Some}
 use Rattle.reader.specs.Outcome.{Outcome, answered, refused}
 use Rattle.reader.specs.Errors.{longest}
-use Rattle.strings.specs.Strings.{Text}
+use Rattle.strings.specs.declared.Str.{Str}
 use Rattle.reader.specs.declared.endianity.RunTimeEndian.{RunTimeEndian}
 use Rattle.reader.specs.declared.common.Format.{Format}
-use Rattle.abbreviations.specs.declared.Abbreviation.{Abbreviation}
-use Rattle.headers.specs.declared.header.Augmentation.{Augmentation}
 use Rattle.headers.specs.declared.header.NameIndexHeader.{NameIndexHeader}
 use Rattle.index.specs.declared.layout.NameIndex.{NameIndex}
 use Rattle.index.specs.declared.layout.Parts.{Parts}
@@ -20,31 +18,24 @@ use Rattle.names.specs.Units.{nth_compile_unit}
 use Rattle.names.specs.Names.{name_string, name_string_bytes}
 use Rattle.names.specs.Declarations.{get_abbreviation}
 use Rattle.reader.specs.Listing.{answers_of}
-use Rattle.reader.specs.Steps.{Linked}
-use Rattle.attributes.specs.declared.attribute.DieOffset.{DieOffset}
+use Rattle.reader.specs.Steps.{Linked, Taken}
 use Rattle.attributes.specs.declared.attribute.EntryParent.{EntryParent}
-use Rattle.entries.specs.declared.series.EntriesRead.{EntriesRead}
 use Rattle.entries.specs.declared.series.NameEntryIter.{NameEntryIter}
 use Rattle.entries.specs.declared.entry.NameEntry.{NameEntry}
-use Rattle.entries.specs.declared.series.NameEntryStep.{NameEntryStep}
-use Rattle.entries.specs.Answers.{entries_outcome, entry_step_of}
 use Rattle.entries.specs.Entries.{handed}
 use Rattle.entries.specs.Series.{series, name_entries, entry_step}
 use Rattle.entries.specs.Facts.{entry_die_offset, entry_parent}
 use Rattle.reader.specs.Numbers.{Bytes}
-use Rattle.hashes.specs.declared.bucket.BucketIter.{BucketIter}
-use Rattle.hashes.specs.declared.bucket.BucketRead.{BucketRead}
-use Rattle.hashes.specs.declared.bucket.NameBucketStep.{NameBucketStep}
-use Rattle.hashes.specs.declared.hash.HashRead.{HashRead}
-use Rattle.hashes.specs.declared.hash.NameHashStep.{NameHashStep}
 use Rattle.hashes.specs.Table.{run, examined}
 use Rattle.hashes.specs.Lookups.{bucket_cursor, hash_cursor, find_by_bucket, find_by_hash, bucket_step, hash_step}
-use Rattle.hashes.specs.Answers.{bucket_outcome, bucket_step_of, hash_outcome, hash_step_of}
 use Rattle.reader.specs.Listing.{Listing, ended, item}
-use Rattle.listing.specs.declared.name.NameHash.{NameHash}
-use Rattle.listing.specs.declared.index_line.Missed.{Missed}
 use Rattle.listing.specs.declared.lines.Line.{Line}
 use Rattle.listing.specs.Lines.{section_lines}
+use Rattle.reader.specs.Answers.{outcome}
+use Rattle.hashes.specs.declared.bucket.NameBucketIter.{NameBucketIter}
+use Rattle.reader.specs.declared.common.NameTableIndex.{NameTableIndex}
+use Rattle.hashes.specs.declared.hash.NameHashIter.{NameHashIter}
+use Rattle.hashes.specs.declared.bucket.BucketName.{BucketName}
 
 -- the bytes, a line for each sentence of document 01: the length; the version and its padding; C; L; F; B; N; A; the augmentation;
 -- the unit; the starts; the hashes; the strings; the entry offsets; the abbreviations; the pool
@@ -89,7 +80,7 @@ header_a = record {
   bucket_count = 2;
   name_count = 3;
   abbrev_table_size = 7;
-  augmentation_string = Augmentation.None;
+  augmentation_string = None;
   content = record { at = 36; end = 109 };
 }
 
@@ -142,7 +133,7 @@ UnitsOfA =
     ≡ answered (record { 0 = 0 }) ∷ refused 1 40 ∷ refused 1 36 ∷ []
 
 -- the names are "abc", "de" and "e"; 3 is refused at the end of the strings, and 4 at their start
-abbrev pub string_of_a : ℕ → Outcome Text
+abbrev pub string_of_a : ℕ → Outcome Str
 string_of_a k = name_string RunTimeEndian.Little case_a strings_a index_a (record { 0 = k })
 
 abbrev pub StringsOfA : Type 0
@@ -157,7 +148,7 @@ BytesOfA = name_string_bytes RunTimeEndian.Little case_a strings_a index_a (reco
 abbrev pub AbbreviationsOfA : Type 0
 AbbreviationsOfA =
     get_abbreviation 1 case_a index_a ∷ get_abbreviation 2 case_a index_a ∷ []
-    ≡ answered (Abbreviation.Found (record { code = 1; tag = 0x2e; attributes = 86; next = 90 })) ∷ answered Abbreviation.NotFound ∷ []
+    ≡ answered (Some (record { code = 1; tag = 0x2e; attributes = 86; next = 90 })) ∷ answered None ∷ []
 
 -- the names' cursors are at 91, 97 and 103, which is what `EntryLookups` supposes; 3 is refused at the end of the entry offsets, and 4 at
 -- their start
@@ -165,7 +156,7 @@ abbrev pub entries_of_a : ℕ → Outcome NameEntryIter
 entries_of_a k = name_entries RunTimeEndian.Little case_a index_a (record { 0 = k })
 
 abbrev pub cursor_of_a : ℕ → Outcome NameEntryIter
-cursor_of_a place = entries_outcome (EntriesRead.Value (record { at = place }))
+cursor_of_a place = outcome (Ok (record { at = place }))
 
 abbrev pub CursorsOfA : Type 0
 CursorsOfA =
@@ -177,34 +168,34 @@ abbrev pub series_of_a : ℕ → List (Outcome (Option NameEntry))
 series_of_a k = answers_of handed (series RunTimeEndian.Little case_a index_a (record { 0 = k }))
 
 abbrev pub entry_at : ℕ → List (Outcome (Option NameEntry))
-entry_at offset = answered (some (record { offset = record { 0 = offset }; abbrev_code = 1; tag = 0x2e })) ∷ []
+entry_at offset = answered (Some (record { offset = record { 0 = offset }; abbrev_code = 1; tag = 0x2e })) ∷ []
 
 abbrev pub SeriesOfA : Type 0
 SeriesOfA = series_of_a 0 ∷ series_of_a 1 ∷ series_of_a 2 ∷ [] ≡ entry_at 0 ∷ entry_at 6 ∷ entry_at 12 ∷ []
 
 -- answers of the step that are linked from the cursor of name 0 on: its entry, the end at its code 0, and the end again
-abbrev pub steps_of_a : List NameEntryStep
+abbrev pub steps_of_a : List (Taken NameEntry NameEntryIter)
 steps_of_a =
-    NameEntryStep.Entry (record { offset = record { 0 = 0 }; abbrev_code = 1; tag = 0x2e }) (record { at = 96 })
-    ∷ NameEntryStep.End (record { at = 109 })
-    ∷ NameEntryStep.End (record { at = 109 })
+    record { answer = Ok (Some (record { offset = record { 0 = 0 }; abbrev_code = 1; tag = 0x2e })); cursor = record { at = 96 } }
+    ∷ record { answer = Ok None; cursor = record { at = 109 } }
+    ∷ record { answer = Ok None; cursor = record { at = 109 } }
     ∷ []
 
 abbrev pub StepsOfA : Type 0
-StepsOfA = Linked entry_step_of (entry_step RunTimeEndian.Little case_a index_a) (record { at = 91 }) steps_of_a
+StepsOfA = Linked (entry_step RunTimeEndian.Little case_a index_a) (record { at = 91 }) steps_of_a
 
 -- the DIE of entry 6 is at 0x20, and its parent is not known
 abbrev pub FactsOfA : Type 0
 FactsOfA =
-    (entry_die_offset RunTimeEndian.Little case_a index_a (record { 0 = 6 }) ≡ answered (DieOffset.Some (record { 0 = 0x20 })))
+    (entry_die_offset RunTimeEndian.Little case_a index_a (record { 0 = 6 }) ≡ answered (Some (record { 0 = 0x20 })))
     × (entry_parent RunTimeEndian.Little case_a index_a (record { 0 = 6 }) ≡ answered EntryParent.NotKnown)
 
 -- its buckets: 0 has the run 0, 1 has the run 1, 2, and there is no other; the name after the run of 0 is examined, too
-abbrev pub bucket_of_a : ℕ → Outcome BucketIter
+abbrev pub bucket_of_a : ℕ → Outcome (Option NameBucketIter)
 bucket_of_a bucket = find_by_bucket RunTimeEndian.Little case_a index_a bucket
 
-abbrev pub before_name : ℕ → ℕ → Outcome BucketIter
-before_name bucket name = bucket_outcome (BucketRead.Value (BucketIter.Some (bucket_cursor bucket name)))
+abbrev pub before_name : ℕ → ℕ → Outcome (Option NameBucketIter)
+before_name bucket name = outcome (Ok (Some (bucket_cursor bucket name)))
 
 abbrev pub BucketsOfA : Type 0
 BucketsOfA = bucket_of_a 0 ∷ bucket_of_a 1 ∷ bucket_of_a 2 ∷ bucket_of_a 3 ∷ [] ≡ before_name 0 0 ∷ before_name 1 1 ∷ refused 1 48 ∷ refused 1 40 ∷ []
@@ -216,26 +207,30 @@ RunsOfA =
 
 -- answers of the steps that are linked from the cursor of bucket 0 on: name 0 with its hash, the end at name 1, which is of another bucket,
 -- the end at name 2, where a step after an end goes on, and then the end at the number of names, again and again
-abbrev pub bucket_steps_of_a : List NameBucketStep
+abbrev pub bucket_steps_of_a : List (Taken BucketName NameBucketIter)
 bucket_steps_of_a =
-    NameBucketStep.Name (record { name = record { 0 = 0 }; hash = 4 }) (bucket_cursor 0 1)
-    ∷ NameBucketStep.End (bucket_cursor 0 2)
-    ∷ NameBucketStep.End (bucket_cursor 0 3)
-    ∷ NameBucketStep.End (bucket_cursor 0 3)
+    record { answer = Ok (Some (record { name = record { 0 = 0 }; hash = 4 })); cursor = bucket_cursor 0 1 }
+    ∷ record { answer = Ok None; cursor = bucket_cursor 0 2 }
+    ∷ record { answer = Ok None; cursor = bucket_cursor 0 3 }
+    ∷ record { answer = Ok None; cursor = bucket_cursor 0 3 }
     ∷ []
 
 abbrev pub BucketStepsOfA : Type 0
-BucketStepsOfA = Linked bucket_step_of (bucket_step RunTimeEndian.Little case_a index_a) (bucket_cursor 0 0) bucket_steps_of_a
+BucketStepsOfA = Linked (bucket_step RunTimeEndian.Little case_a index_a) (bucket_cursor 0 0) bucket_steps_of_a
 
 -- hash 9 has the cursor of its bucket, and its steps pass over name 1, which stores 7
 abbrev pub HashOfA : Type 0
-HashOfA = hash_outcome (HashRead.Value (hash_cursor 1 9 1)) ≡ find_by_hash RunTimeEndian.Little case_a index_a 9
+HashOfA = outcome (Ok (hash_cursor 1 9 1)) ≡ find_by_hash RunTimeEndian.Little case_a index_a 9
 
-abbrev pub hash_steps_of_a : List NameHashStep
-hash_steps_of_a = NameHashStep.Name (record { 0 = 2 }) (hash_cursor 1 9 3) ∷ NameHashStep.End (hash_cursor 1 9 3) ∷ NameHashStep.End (hash_cursor 1 9 3) ∷ []
+abbrev pub hash_steps_of_a : List (Taken NameTableIndex NameHashIter)
+hash_steps_of_a =
+    record { answer = Ok (Some (record { 0 = 2 })); cursor = hash_cursor 1 9 3 }
+    ∷ record { answer = Ok None; cursor = hash_cursor 1 9 3 }
+    ∷ record { answer = Ok None; cursor = hash_cursor 1 9 3 }
+    ∷ []
 
 abbrev pub HashStepsOfA : Type 0
-HashStepsOfA = Linked hash_step_of (hash_step RunTimeEndian.Little case_a index_a) (hash_cursor 1 9 1) hash_steps_of_a
+HashStepsOfA = Linked (hash_step RunTimeEndian.Little case_a index_a) (hash_cursor 1 9 1) hash_steps_of_a
 
 -- what `CompleteExactly` supposes of any section and index that is lent
 abbrev pub LentA : Type 0
@@ -243,11 +238,11 @@ LentA = Bytes case_a × (index_a.bucket_count < 2 ^ 32)
 
 -- the five lines of its listing, as document 01 has them, with a number of missed names
 abbrev pub name_line_of : ℕ → ℕ → ℕ → Line
-name_line_of number hash string = Line.Name (record { name = record { 0 = number }; hash = NameHash.Some hash; string = record { 0 = string }; entries = 1 })
+name_line_of number hash string = Line.Name (record { name = record { 0 = number }; hash = Some hash; string = record { 0 = string }; entries = 1 })
 
 abbrev pub lines_missing : ℕ → Listing Line
 lines_missing missed =
-    item (Line.Index (record { place = record { 0 = 0 }; name_count = 3; bucket_count = 2; missed = Missed.Some missed }))
+    item (Line.Index (record { place = record { 0 = 0 }; name_count = 3; bucket_count = 2; missed = Some missed }))
     (item (name_line_of 0 4 1) (item (name_line_of 1 7 5) (item (name_line_of 2 9 6) (item (Line.Indexes 1) ended))))
 
 -- its listing; and with second start 4 the same lines, where only the count of missed names differs: the lost name and its hash are not printed

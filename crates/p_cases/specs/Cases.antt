@@ -2,13 +2,14 @@
 -- `expected` what document 01 says, and document 02 (No. 2) of the first name that an incomplete table loses.
 use Rattle.std.specs.Prelude.{ℕ, ◌≡◌, List, [], ◌∷◌, ◌++◌, length, replicate}
 use Rattle.reader.specs.Outcome.{Outcome, answered, refused}
-use Rattle.reader.specs.Numbers.{Read}
+use Rattle.reader.specs.declared.reader.Read.{Read}
 use Rattle.leb128.specs.Leb128.{leb128, unsigned_limit, u16_limit}
 use Rattle.reader.specs.declared.endianity.RunTimeEndian.{RunTimeEndian}
 use Rattle.entries.specs.declared.entry.NameEntry.{NameEntry}
 use Rattle.entries.specs.Entries.{name_entry_handed}
 use Rattle.hashes.specs.Table.{names_of_hash}
-use Rattle.tables.specs.Check.{Checked, complete, incomplete, table_check}
+use Rattle.tables.specs.declared.TableCheck.{TableCheck}
+use Rattle.tables.specs.Check.{table_check}
 use Rattle.query_plan.specs.Plans.{Queried}
 use Rattle.p_cases.specs.CaseA.{case_a, index_a, second_start}
 use Rattle.p_cases.specs.Lost.{lost_one, lost_two}
@@ -16,10 +17,10 @@ use Rattle.p_cases.specs.Queries.{query_of_a, found_in_a}
 
 -- what a case asks for
 pub data Answer : Type 0 where
-  number : Outcome Read → Answer
+  number : Outcome (Read ℕ) → Answer
   entry : Outcome NameEntry → Answer
   names : List ℕ → Answer
-  check : Outcome Checked → Answer
+  check : Outcome TableCheck → Answer
   query : Queried → Answer
 
 -- `leb128::read::unsigned` and `leb128::read::u16` at the start of these bytes
@@ -76,9 +77,9 @@ expected =
     ∷ names (0 ∷ [])
     ∷ names (2 ∷ [])
     ∷ names []
-    ∷ check (answered complete)
-    ∷ check (answered (incomplete lost_one))
-    ∷ check (answered (incomplete lost_two))
+    ∷ check (answered TableCheck.Complete)
+    ∷ check (answered (TableCheck.Incomplete lost_one))
+    ∷ check (answered (TableCheck.Incomplete lost_two))
     ∷ check (refused 1 48)
     ∷ query found_in_a
     ∷ []

@@ -1,6 +1,7 @@
 -- Document 02, No. 2, on case A with another second start: what the table check names, and what is proved of it; and on two tables of their own: one
 -- where the name that is named is not that of the lowest bucket, and one where a lookup finds another name that stores its hash.
-use Rattle.std.specs.Prelude.{ℕ, ◌+◌, ◌*◌, ◌≤◌, ◌<◌, ◌≡◌, true, List, [], ◌∷◌, ◌++◌, replicate}
+use Rattle.std.specs.Prelude.{ℕ, ◌+◌, ◌*◌, ◌≤◌, ◌<◌, ◌≡◌, true, List, [], ◌∷◌, ◌++◌, replicate, Ok}
+use Rattle.reader.specs.Answers.{outcome}
 use Rattle.reader.specs.Lists.{memberb}
 use Rattle.reader.specs.declared.endianity.RunTimeEndian.{RunTimeEndian}
 use Rattle.reader.specs.declared.common.Format.{Format}
@@ -8,7 +9,7 @@ use Rattle.index.specs.declared.layout.NameIndex.{NameIndex}
 use Rattle.hashes.specs.Table.{names_of_hash, all_storing}
 use Rattle.tables.specs.declared.Incomplete.{Incomplete}
 use Rattle.tables.specs.declared.TableCheck.{TableCheck}
-use Rattle.tables.specs.Check.{check_outcome, missed_names, table_check}
+use Rattle.tables.specs.Check.{missed_names, table_check}
 use Rattle.tables.specs.Sanity.{ListsWithout}
 use Rattle.p_cases.specs.CaseA.{index_a, second_start}
 
@@ -23,8 +24,8 @@ lost_two = record { missed = 2; name = record { 0 = 1 }; hash = 7 }
 -- what `LostLeast` and `LostNotListed` suppose, for the second starts 3 and 4, and what `MissedTold` supposes besides, for 4
 abbrev pub LostSupposes : Type 0
 LostSupposes =
-    (check_outcome (TableCheck.Incomplete lost_one) ≡ table_check RunTimeEndian.Little (second_start 3) index_a)
-    × (check_outcome (TableCheck.Incomplete lost_two) ≡ table_check RunTimeEndian.Little (second_start 4) index_a)
+    (outcome (Ok (TableCheck.Incomplete lost_one)) ≡ table_check RunTimeEndian.Little (second_start 3) index_a)
+    × (outcome (Ok (TableCheck.Incomplete lost_two)) ≡ table_check RunTimeEndian.Little (second_start 4) index_a)
     × (0 < index_a.bucket_count)
     × (memberb 1 (missed_names RunTimeEndian.Little (second_start 4) index_a) ≡ true)
 
@@ -68,7 +69,7 @@ table_index names = record {
 -- not that of the lowest bucket; its hash is the stored one, and not its bucket.
 abbrev pub LostByNumber : Type 0
 LostByNumber =
-    check_outcome (TableCheck.Incomplete (record { missed = 2; name = record { 0 = 0 }; hash = 5 }))
+    outcome (Ok (TableCheck.Incomplete (record { missed = 2; name = record { 0 = 0 }; hash = 5 })))
     ≡ table_check RunTimeEndian.Little (table_of 2 (0 ∷ 0 ∷ 5 ∷ 2 ∷ [])) (table_index 2)
 
 -- Starts 2 and 1, hashes 7, 4 and 7: the run of the second bucket ends before name 1, so that name 2 is lost; the lookup of 7 lists name 0 alone.
@@ -77,6 +78,6 @@ interrupted = table_of 3 (2 ∷ 1 ∷ 7 ∷ 4 ∷ 7 ∷ [])
 
 abbrev pub LostBesideFound : Type 0
 LostBesideFound =
-    (check_outcome (TableCheck.Incomplete (record { missed = 1; name = record { 0 = 2 }; hash = 7 })) ≡ table_check RunTimeEndian.Little interrupted (table_index 3))
+    (outcome (Ok (TableCheck.Incomplete (record { missed = 1; name = record { 0 = 2 }; hash = 7 }))) ≡ table_check RunTimeEndian.Little interrupted (table_index 3))
     × (all_storing RunTimeEndian.Little interrupted (table_index 3) 7 ≡ 0 ∷ 2 ∷ [])
     × (names_of_hash RunTimeEndian.Little interrupted (table_index 3) 7 ≡ 0 ∷ [])

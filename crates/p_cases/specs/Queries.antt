@@ -1,10 +1,9 @@
 -- Case A's query, and demand 3 on case A: what its first two parts say of it, and for the third, on case A and on a section of two indexes of
 -- which one has no hash table, that what it supposes holds there, and what it says.
-use Rattle.std.specs.Prelude.{ℕ, ◌^◌, ◌<◌, ◌≡◌, List, [], ◌∷◌, ◌++◌, map, length, take, drop}
+use Rattle.std.specs.Prelude.{ℕ, ◌^◌, ◌<◌, ◌≡◌, List, [], ◌∷◌, ◌++◌, map, length, take, drop, None}
 use Rattle.reader.specs.Outcome.{answered}
 use Rattle.reader.specs.declared.endianity.RunTimeEndian.{RunTimeEndian}
 use Rattle.reader.specs.declared.common.Format.{Format}
-use Rattle.headers.specs.declared.header.Augmentation.{Augmentation}
 use Rattle.headers.specs.declared.header.NameIndexHeader.{NameIndexHeader}
 use Rattle.index.specs.declared.layout.NameIndex.{NameIndex}
 use Rattle.records.specs.declared.record.Record.{Record}
@@ -12,9 +11,8 @@ use Rattle.query_plan.specs.Plans.{Queried}
 use Rattle.query.specs.Query.{section_query}
 use Rattle.demand3.specs.Expected.{OpenIndex, expected}
 use Rattle.demand3.specs.Demand3.{Each, AllOpen, CompleteOrNoTable}
-use Rattle.reader.specs.Steps.{ListsInOrder}
+use Rattle.reader.specs.Steps.{ListsInOrder, answers}
 use Rattle.index.specs.Layout.{parts}
-use Rattle.entries.specs.Answers.{entry_step_of}
 use Rattle.hashes.specs.Table.{run, names_of_hash}
 use Rattle.hashes.specs.Demand3.{bucket_answers, hash_answers, bucket_names, hash_names}
 use Rattle.tables.specs.Demand3.{ListsAll}
@@ -25,7 +23,7 @@ abbrev pub LookupsInA : Type 0
 LookupsInA =
     ListsInOrder (bucket_answers bucket_steps_of_a) (bucket_names RunTimeEndian.Little case_a (parts index_a) (run RunTimeEndian.Little case_a index_a 0))
     × ListsInOrder (hash_answers hash_steps_of_a) (hash_names (names_of_hash RunTimeEndian.Little case_a index_a 9))
-    × ListsInOrder (map (λ r. (entry_step_of r).answer) steps_of_a) (series_of_a 0)
+    × ListsInOrder (answers steps_of_a) (series_of_a 0)
 
 -- The second: the check says complete, and so each hash lists all names that store it.
 abbrev pub AllListedInA : Type 0
@@ -119,7 +117,7 @@ second_header = record {
   bucket_count = 0;
   name_count = 2;
   abbrev_table_size = 7;
-  augmentation_string = Augmentation.None;
+  augmentation_string = None;
   content = record { at = 145; end = 178 };
 }
 

@@ -1,14 +1,12 @@
 -- Document 02, No. 5, on a section: a query meets an entry with both attributes of units, demand 3 speaks of the record with the type unit, and the
 -- two facts of the entry answer as they did.
-use Rattle.std.specs.Prelude.{ℕ, ◌≡◌, List, [], ◌∷◌, ◌++◌, map, length, take, drop}
+use Rattle.std.specs.Prelude.{ℕ, ◌≡◌, List, [], ◌∷◌, ◌++◌, map, length, take, drop, Some, None}
 use Rattle.reader.specs.Outcome.{answered, refused}
 use Rattle.reader.specs.declared.endianity.RunTimeEndian.{RunTimeEndian}
 use Rattle.reader.specs.declared.common.Format.{Format}
-use Rattle.headers.specs.declared.header.Augmentation.{Augmentation}
 use Rattle.headers.specs.declared.header.NameIndexHeader.{NameIndexHeader}
 use Rattle.index.specs.declared.layout.NameIndex.{NameIndex}
 use Rattle.names.specs.declared.units.NameTypeUnit.{NameTypeUnit}
-use Rattle.attributes.specs.declared.units.EntryTypeUnit.{EntryTypeUnit}
 use Rattle.entries.specs.Facts.{entry_compile_unit, entry_type_unit}
 use Rattle.records.specs.declared.record.Record.{Record}
 use Rattle.query.specs.Query.{section_query}
@@ -51,7 +49,7 @@ split_header = record {
   bucket_count = 0;
   name_count = 1;
   abbrev_table_size = 11;
-  augmentation_string = Augmentation.None;
+  augmentation_string = None;
   content = record { at = 36; end = 72 };
 }
 
@@ -113,4 +111,4 @@ abbrev pub SplitFacts : Type 0
 SplitFacts =
     (entry_compile_unit RunTimeEndian.Little split_units split_index (record { 0 = 0 }) ≡ refused 1 36)
     × (entry_type_unit RunTimeEndian.Little split_units split_index (record { 0 = 0 })
-    ≡ answered (EntryTypeUnit.Some (NameTypeUnit.Foreign (record { 0 = 0x0102030405060708 }))))
+    ≡ answered (Some (NameTypeUnit.Foreign (record { 0 = 0x0102030405060708 }))))

@@ -1,10 +1,12 @@
 -- The listing as text: case A's, byte for byte as document 01 has it, that of an empty section, and that of a section which is refused; and the steps
 -- that a program makes over an empty section, so that `TextListed`, which supposes such steps, speaks of a real case.
-use Rattle.std.specs.Prelude.{◌≡◌, true, false, [], ◌∷◌, ◌++◌, replicate}
+use Rattle.std.specs.Prelude.{◌≡◌, [], ◌∷◌, ◌++◌, Ok, Err, Some, None}
+use Rattle.reader.specs.declared.error.Error.{Error}
+use Rattle.listing.specs.declared.lines.Line.{Line}
 use Rattle.listing.specs.Lines.{first_line, ended_at}
 use Rattle.line_text.specs.Text.{bytes}
-use Rattle.listing_text.specs.declared.TextStep.{TextStep}
 use Rattle.listing_text.specs.Listing.{section_text}
+use Rattle.listing_text.specs.declared.TextStep.{TextStep}
 use Rattle.listing_text.specs.Listed.{StepsFrom}
 use Rattle.p_cases.specs.CaseA.{case_a}
 
@@ -24,12 +26,13 @@ TextOfNothing = section_text [] ≡ bytes "indexes 0\n"
 abbrev pub TextRefused : Type 0
 TextRefused = section_text (105 ∷ 0 ∷ 0 ∷ 0 ∷ []) ≡ bytes "refused 1\n"
 
--- the steps over an empty section: the last line, and the end
-abbrev pub last_line : TextStep
-last_line = record { text = record { bytes = bytes "indexes 0\n" ++ replicate 118 0; len = 10 }; cursor = ended_at first_line; more = true }
-
-abbrev pub no_line : TextStep
-no_line = record { text = record { bytes = replicate 128 0; len = 0 }; cursor = ended_at first_line; more = false }
+-- the steps over an empty section, and over one that is refused: the line, or the refusal in its place, and nothing behind it
+abbrev pub nothing_behind : TextStep
+nothing_behind = record { text = None; cursor = ended_at first_line }
 
 abbrev pub StepsOfNothing : Type 0
-StepsOfNothing = StepsFrom [] first_line (last_line ∷ no_line ∷ [])
+StepsOfNothing = StepsFrom [] first_line (record { text = Some (record { 0 = Ok (Line.Indexes 0) }); cursor = ended_at first_line } ∷ nothing_behind ∷ [])
+
+abbrev pub StepsRefused : Type 0
+StepsRefused =
+    StepsFrom (105 ∷ 0 ∷ 0 ∷ 0 ∷ []) first_line (record { text = Some (record { 0 = Err (Error.UnexpectedEof 4) }); cursor = ended_at first_line } ∷ nothing_behind ∷ [])

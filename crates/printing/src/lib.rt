@@ -1,13 +1,12 @@
 // Prints the listing of a section to standard output (document 01, "Bytes to try"). Which bytes each line has is decided by `line_text` and
-// `listing_text`, and proved there; here they are written.
-// What cannot be read or written ends the program with the error.
+// `listing_text`, and proved there; here they are printed.
+// What cannot be read or printed ends the program with the error.
 #![tactic(auto)]
 
-ghost use Rattle.line_text.specs.Room.{Room};
-
-use line_text::{LineText, refused_text};
+use line_text::LineText;
 use listing::section_lines;
 use listing_text::next_text;
+use reader::Error;
 use standard_input::read_full;
 use std::io;
 
@@ -22,39 +21,21 @@ pub fn list_input(rt: &(impl Print + Input)) -> io::Result<()> {
     let mut one = [0; 1];
     let more = read_full(rt, &mut one)?;
     if more != 0 {
-        return write(rt, refused_text(13));
+        return rt.print(LineText(Err(Error::SectionTooLong)));
     }
-    list(rt, &bytes, len)
+    print_listing(rt, &bytes[..len])
 }
 
-// The listing of the section at the start of the bytes.
-fn list(rt: &impl Print, bytes: &[u8], len: usize) -> io::Result<()> {
-    if bytes.len() < len {
-        return Ok(());
-    }
-    print_listing(rt, &bytes[0..len])
-}
-
-// The listing of a little-endian section. It stops at the first line that cannot be written.
+// The listing of a little-endian section. It stops at the first line that cannot be printed.
 pub fn print_listing(rt: &impl Print, section: &[u8]) -> io::Result<()> {
     let mut cursor = section_lines();
-    for n in 0..LINES {
-        let next = next_text(section, cursor);
-        let text = next.text;
-        write(rt, text)?;
-        if !next.more {
+    for _ in 0..LINES {
+        let step = next_text(section, cursor);
+        let Some(text) = step.text else {
             return Ok(());
-        }
-        cursor = next.cursor;
+        };
+        rt.print(text)?;
+        cursor = step.cursor;
     }
     Ok(())
-}
-
-// Writes a text to standard output.
-fn write(rt: &impl Print, text: LineText) -> io::Result<()>
-    requires { Room text 0 }
-{
-    let bytes = text.bytes;
-    let len = text.len;
-    rt.write_all(&bytes[..len])
 }

@@ -8,34 +8,41 @@ mod sections; // bytes
 mod split; // cases that a line of text describes
 
 use crate::ask::{ask, little};
+use crate::sections::changed;
+use lent_records::Lent;
 use reader::RunTimeEndian;
 use std::io;
 
 fn main(rt: HostRuntime) -> io::Result<()> {
-    let series = sections::SERIES;
-    let units = sections::UNITS;
-    let two = sections::TWO;
-    let big = sections::BIG;
     case_a(&rt)?;
     starts(&rt)?;
     padded(&rt)?;
-    rooms(&rt, &series)?;
-    totals(&rt, &series)?;
-    names(&rt, &series)?;
-    no_match(&rt, &series)?;
+    let series = sections::SERIES;
+    let series = little(&series);
+    rooms(&rt, series)?;
+    totals(&rt, series)?;
+    names(&rt, series)?;
+    no_match(&rt, series)?;
     series_of_none(&rt)?;
-    kinds(&rt, &units)?;
+    let units = sections::UNITS;
+    kinds(&rt, little(&units))?;
     unit_numbers(&rt)?;
     wrong_forms(&rt)?;
-    two_indexes(&rt, &two)?;
+    let two = sections::TWO;
+    two_indexes(&rt, little(&two))?;
     cut(&rt, &two)?;
     refused_late(&rt)?;
-    big_endian(&rt, &big)?;
-    other_orders(&rt, &two, &big)?;
-    no_strings(&rt, &series)?;
+    let big = Lent {
+        order: RunTimeEndian::Big,
+        ..little(&sections::BIG)
+    };
+    big_endian(&rt, big)?;
+    other_orders(&rt, little(&two), big)?;
+    no_strings(&rt, series)?;
     let mut text = [0; 65536];
     let len = standard_input::read_full(&rt, &mut text)?;
-    split_units(&rt, &text, len)
+    // Entries with both attributes of units.
+    split::lines(&rt, &text[..len])
 }
 
 // Document 01's query, and others on case A.
@@ -71,19 +78,12 @@ fn on_a(
     name: &[u8],
     room: usize,
 ) -> io::Result<()> {
-    let mut a = sections::CASE_A;
-    let strings = sections::STRINGS_A;
-    a[44] = second;
-    ask(
-        rt,
-        title,
-        RunTimeEndian::Little,
-        &a,
-        &strings,
-        hash,
-        name,
-        room,
-    )
+    let s = changed(sections::CASE_A, 44, second);
+    let a = Lent {
+        strings: sections::STRINGS_A,
+        ..little(&s)
+    };
+    ask(rt, a, title, hash, name, room)
 }
 
 // Case A with every number padded: unchanged, with the 0 at 36 that stands there; with a bit in the eleventh and in the twelfth byte of the second code,
@@ -111,70 +111,59 @@ fn on_padded(
     hash: u32,
     name: &[u8],
 ) -> io::Result<()> {
-    let mut s = sections::PADDED_A;
-    let strings = sections::STRINGS_A;
-    if at < s.len() {
-        s[at] = byte;
-        ask(
-            rt,
-            title,
-            RunTimeEndian::Little,
-            &s,
-            &strings,
-            hash,
-            name,
-            4,
-        )?;
+    let s = changed(sections::PADDED_A, at, byte);
+    let a = Lent {
+        strings: sections::STRINGS_A,
+        ..little(&s)
+    };
+    ask(rt, a, title, hash, name, 4)
+}
+
+// Records: none, fewer than the total, as many, and more.
+fn rooms(rt: &impl Print, series: Lent) -> io::Result<()> {
+    for room in 0..=4 {
+        ask(rt, series, b"series, 12 three", 12, b"three", room)?;
     }
     Ok(())
 }
 
-// Records: none, fewer than the total, as many, and more.
-fn rooms(rt: &impl Print, s: &[u8]) -> io::Result<()> {
-    little(rt, b"series, 12 three", s, 12, b"three", 0)?;
-    little(rt, b"series, 12 three", s, 12, b"three", 1)?;
-    little(rt, b"series, 12 three", s, 12, b"three", 2)?;
-    little(rt, b"series, 12 three", s, 12, b"three", 3)?;
-    little(rt, b"series, 12 three", s, 12, b"three", 4)
-}
-
 // Totals above the records, equal to them, and 0. "five" and "four" have one hash.
-fn totals(rt: &impl Print, s: &[u8]) -> io::Result<()> {
-    little(rt, b"series, 10 four", s, 10, b"four", 3)?;
-    little(rt, b"series, 10 four", s, 10, b"four", 4)?;
-    little(rt, b"series, 10 five", s, 10, b"five", 0)?;
-    little(rt, b"series, 10 five", s, 10, b"five", 4)?;
-    little(rt, b"series, 9 none", s, 9, b"none", 0)?;
-    little(rt, b"series, 9 none", s, 9, b"none", 4)
+fn totals(rt: &impl Print, series: Lent) -> io::Result<()> {
+    ask(rt, series, b"series, 10 four", 10, b"four", 3)?;
+    ask(rt, series, b"series, 10 four", 10, b"four", 4)?;
+    ask(rt, series, b"series, 10 five", 10, b"five", 0)?;
+    ask(rt, series, b"series, 10 five", 10, b"five", 4)?;
+    ask(rt, series, b"series, 9 none", 9, b"none", 0)?;
+    ask(rt, series, b"series, 9 none", 9, b"none", 4)
 }
 
 // Two names with one string and one series, with another name between them; the empty name; and a candidate whose string cannot be read.
-fn names(rt: &impl Print, s: &[u8]) -> io::Result<()> {
-    little(rt, b"series, 7 twin", s, 7, b"twin", 4)?;
-    little(rt, b"series, 7 twin", s, 7, b"twin", 3)?;
-    little(rt, b"series, 14 the empty name", s, 14, b"", 4)?;
-    little(rt, b"series, 11 end", s, 11, b"end", 4)?;
-    little(rt, b"series, 11 end", s, 11, b"end", 0)?;
-    little(rt, b"series, 11 five", s, 11, b"five", 4)
+fn names(rt: &impl Print, series: Lent) -> io::Result<()> {
+    ask(rt, series, b"series, 7 twin", 7, b"twin", 4)?;
+    ask(rt, series, b"series, 7 twin", 7, b"twin", 3)?;
+    ask(rt, series, b"series, 14 the empty name", 14, b"", 4)?;
+    ask(rt, series, b"series, 11 end", 11, b"end", 4)?;
+    ask(rt, series, b"series, 11 end", 11, b"end", 0)?;
+    ask(rt, series, b"series, 11 five", 11, b"five", 4)
 }
 
 // Names that match nothing: with the hash of another name, and with a zero byte in them, though .debug_str has these bytes in a row.
-fn no_match(rt: &impl Print, s: &[u8]) -> io::Result<()> {
-    little(rt, b"series, 9 twin", s, 9, b"twin", 4)?;
-    little(rt, b"series, 10 the empty name", s, 10, b"", 4)?;
-    little(rt, b"series, 14 a zero byte", s, 14, b"\x00", 4)?;
-    little(
+fn no_match(rt: &impl Print, series: Lent) -> io::Result<()> {
+    ask(rt, series, b"series, 9 twin", 9, b"twin", 4)?;
+    ask(rt, series, b"series, 10 the empty name", 10, b"", 4)?;
+    ask(rt, series, b"series, 14 a zero byte", 14, b"\x00", 4)?;
+    ask(
         rt,
+        series,
         b"series, 10 five and a zero byte",
-        s,
         10,
         b"five\x00",
         4,
     )?;
-    little(
+    ask(
         rt,
+        series,
         b"series, 12 three, a zero byte and none",
-        s,
         12,
         b"three\x00none",
         4,
@@ -183,27 +172,22 @@ fn no_match(rt: &impl Print, s: &[u8]) -> io::Result<()> {
 
 // The series of "none" at the pool's end, and past it: the pool begins at 155.
 fn series_of_none(rt: &impl Print) -> io::Result<()> {
-    let mut s = sections::SERIES;
-    s[132] = 33;
-    little(
-        rt,
-        b"series, none at the pool's end, 9 none",
-        &s,
-        9,
-        b"none",
-        4,
-    )?;
-    s[132] = 34;
-    little(rt, b"series, none past the pool, 9 none", &s, 9, b"none", 4)
+    none_at(rt, b"series, none at the pool's end, 9 none", 33)?;
+    none_at(rt, b"series, none past the pool, 9 none", 34)
+}
+
+fn none_at(rt: &impl Print, title: &[u8], offset: u8) -> io::Result<()> {
+    let s = changed(sections::SERIES, 132, offset);
+    ask(rt, little(&s), title, 9, b"none", 4)
 }
 
 // Units by compile_unit, by local and foreign type_unit, and none for C = 2; and an entry with both, whose type unit is shown. There is no hash
 // table.
-fn kinds(rt: &impl Print, s: &[u8]) -> io::Result<()> {
-    little(rt, b"units, 0 unit", s, 0, b"unit", 4)?;
-    little(rt, b"units, 4294967295 unit", s, 4294967295, b"unit", 4)?;
-    little(rt, b"units, 0 both", s, 0, b"both", 4)?;
-    little(rt, b"units, 0 none", s, 0, b"none", 4)
+fn kinds(rt: &impl Print, units: Lent) -> io::Result<()> {
+    ask(rt, units, b"units, 0 unit", 0, b"unit", 4)?;
+    ask(rt, units, b"units, 4294967295 unit", 4294967295, b"unit", 4)?;
+    ask(rt, units, b"units, 0 both", 0, b"both", 4)?;
+    ask(rt, units, b"units, 0 none", 0, b"none", 4)
 }
 
 // Numbers of units equal to the count and larger: of the first entry, and of the third. And the string of the last name, where the first
@@ -220,12 +204,8 @@ fn unit_numbers(rt: &impl Print) -> io::Result<()> {
 }
 
 fn unit(rt: &impl Print, title: &[u8], at: usize, byte: u8, room: usize) -> io::Result<()> {
-    let mut s = sections::UNITS;
-    if at < s.len() {
-        s[at] = byte;
-        little(rt, title, &s, 0, b"unit", room)?;
-    }
-    Ok(())
+    let s = changed(sections::UNITS, at, byte);
+    ask(rt, little(&s), title, 0, b"unit", room)
 }
 
 // A third entry whose unit and DIE offset have the wrong forms 0x11 and 0x0b; the DIE offset alone; a type_unit of the wrong form 0x0c; a
@@ -243,28 +223,28 @@ fn wrong_forms(rt: &impl Print) -> io::Result<()> {
 }
 
 fn form(rt: &impl Print, title: &[u8], code: u8, room: usize) -> io::Result<()> {
-    let mut s = sections::FORMS;
-    s[89] = code;
-    little(rt, title, &s, 0, b"form", room)
+    let s = changed(sections::FORMS, 89, code);
+    ask(rt, little(&s), title, 0, b"form", room)
 }
 
 // A name in two indexes, of which the second has no hash table.
-fn two_indexes(rt: &impl Print, s: &[u8]) -> io::Result<()> {
-    little(rt, b"two, 7 twin", s, 7, b"twin", 4)?;
-    little(rt, b"two, 7 twin", s, 7, b"twin", 2)?;
-    little(rt, b"two, 8 twin", s, 8, b"twin", 4)?;
-    little(rt, b"two, 7 five", s, 7, b"five", 4)
+fn two_indexes(rt: &impl Print, two: Lent) -> io::Result<()> {
+    ask(rt, two, b"two, 7 twin", 7, b"twin", 4)?;
+    ask(rt, two, b"two, 7 twin", 7, b"twin", 2)?;
+    ask(rt, two, b"two, 8 twin", 8, b"twin", 4)?;
+    ask(rt, two, b"two, 7 five", 7, b"five", 4)
 }
 
 // The section up to a place: nothing, the first index, and a part of the second.
-fn cut(rt: &impl Print, s: &[u8]) -> io::Result<()> {
-    if s.len() < 178 {
-        return Ok(());
-    }
-    little(rt, b"two up to 0, 7 twin", &s[0..0], 7, b"twin", 4)?;
-    little(rt, b"two up to 69, 7 twin", &s[0..69], 7, b"twin", 4)?;
-    little(rt, b"two up to 71, 7 twin", &s[0..71], 7, b"twin", 4)?;
-    little(rt, b"two up to 177, 7 twin", &s[0..177], 7, b"twin", 4)
+fn cut(rt: &impl Print, two: &[u8; 178]) -> io::Result<()> {
+    up_to(rt, b"two up to 0, 7 twin", &two[..0])?;
+    up_to(rt, b"two up to 69, 7 twin", &two[..69])?;
+    up_to(rt, b"two up to 71, 7 twin", &two[..71])?;
+    up_to(rt, b"two up to 177, 7 twin", &two[..177])
+}
+
+fn up_to(rt: &impl Print, title: &[u8], section: &[u8]) -> io::Result<()> {
+    ask(rt, little(section), title, 7, b"twin", 4)
 }
 
 // Refusals in the second index, after a match in the first: its version, a form of its abbreviations, the entry offset of its last name,
@@ -281,90 +261,67 @@ fn refused_late(rt: &impl Print) -> io::Result<()> {
 }
 
 fn late(rt: &impl Print, title: &[u8], at: usize, byte: u8, room: usize) -> io::Result<()> {
-    let mut s = sections::TWO;
-    if at < s.len() {
-        s[at] = byte;
-        little(rt, title, &s, 7, b"twin", room)?;
-    }
-    Ok(())
+    let s = changed(sections::TWO, at, byte);
+    ask(rt, little(&s), title, 7, b"twin", room)
 }
 
 // The big-endian indexes: a foreign type unit, the default unit, none for C = 0, and a local type unit.
-fn big_endian(rt: &impl Print, s: &[u8]) -> io::Result<()> {
-    let strings = sections::STRINGS;
-    let order = RunTimeEndian::Big;
-    ask(rt, b"big, 7 twin", order, s, &strings, 7, b"twin", 4)?;
-    ask(rt, b"big, 6 three", order, s, &strings, 6, b"three", 4)?;
-    ask(rt, b"big, 7 three", order, s, &strings, 7, b"three", 4)?;
-    let mut changed = sections::BIG;
-    changed[133] = 0;
-    ask(
-        rt,
-        b"big, type unit 0, 6 three",
-        order,
-        &changed,
-        &strings,
-        6,
-        b"three",
-        4,
-    )
+fn big_endian(rt: &impl Print, big: Lent) -> io::Result<()> {
+    ask(rt, big, b"big, 7 twin", 7, b"twin", 4)?;
+    ask(rt, big, b"big, 6 three", 6, b"three", 4)?;
+    ask(rt, big, b"big, 7 three", 7, b"three", 4)?;
+    let zero = Lent {
+        section: &changed(sections::BIG, 133, 0),
+        ..big
+    };
+    ask(rt, zero, b"big, type unit 0, 6 three", 6, b"three", 4)
 }
 
 // The other byte order: the first length is too large.
-fn other_orders(rt: &impl Print, two: &[u8], big: &[u8]) -> io::Result<()> {
-    let strings = sections::STRINGS;
+fn other_orders(rt: &impl Print, two: Lent, big: Lent) -> io::Result<()> {
+    let turned = Lent {
+        order: RunTimeEndian::Big,
+        ..two
+    };
     ask(
         rt,
+        turned,
         b"two, the other byte order, 7 twin",
-        RunTimeEndian::Big,
-        two,
-        &strings,
         7,
         b"twin",
         4,
     )?;
-    little(rt, b"big, the other byte order, 7 twin", big, 7, b"twin", 4)
+    ask(
+        rt,
+        little(big.section),
+        b"big, the other byte order, 7 twin",
+        7,
+        b"twin",
+        4,
+    )
 }
 
 // An empty .debug_str: a string at 1 and the empty one at 0 cannot be read; where there is no candidate none is read.
-fn no_strings(rt: &impl Print, s: &[u8]) -> io::Result<()> {
-    let order = RunTimeEndian::Little;
+fn no_strings(rt: &impl Print, series: Lent) -> io::Result<()> {
+    let bare = Lent {
+        strings: b"",
+        ..series
+    };
     ask(
         rt,
+        bare,
         b"series, .debug_str empty, 10 five",
-        order,
-        s,
-        b"",
         10,
         b"five",
         4,
     )?;
     ask(
         rt,
+        bare,
         b"series, .debug_str empty, 14 the empty name",
-        order,
-        s,
-        b"",
         14,
         b"",
         4,
     )?;
-    ask(
-        rt,
-        b"series, .debug_str empty, 6 five",
-        order,
-        s,
-        b"",
-        6,
-        b"five",
-        4,
-    )
-}
-
-// Entries with both attributes of units: the text at the start of the bytes.
-fn split_units(rt: &impl Print, text: &[u8], len: usize) -> io::Result<()> {
-    if text.len() < len {
-        return Ok(());
-    }
-    split::lines(rt, &text[0..len])
+    ask(rt, bare, b"series, .debug_str empty, 6 five", 6, b"five", 4)
 }

@@ -31,12 +31,12 @@ pub const PADDED_A: [u8; 217] = *b"\xd5\x00\x00\x00\x05\x00\x00\x00\x01\x00\x00\
     \x81\x80\x80\x80\x80\x80\x80\x80\x80\x80\x80\x00\x30\x00\x00\x00\x80\x80\x80\x80\x80\x80\x80\x80\x80\x80\x80\x00";
 
 // The .debug_str of both.
-pub const STRINGS_A: [u8; 8] = *b"\x00abc\x00de\x00";
+pub const STRINGS_A: &[u8] = b"\x00abc\x00de\x00";
 
 // The .debug_str of the other sections: the empty string at 0, "five" at 1, "four" at 6, "three" at 11, "none" at 17, "twin" at 22 and at
 // 27, "unit" at 32, "both" at 37, "form" at 42, and at 47, up to the end at 50, a string without a zero byte.
-pub const STRINGS: [u8; 50] =
-    *b"\x00five\x00four\x00three\x00none\x00twin\x00twin\x00unit\x00both\x00form\x00end";
+pub const STRINGS: &[u8] =
+    b"\x00five\x00four\x00three\x00none\x00twin\x00twin\x00unit\x00both\x00form\x00end";
 
 // Series of 5, 4, 3, 1, 2 and 0 entries: length 184, C 1, B 2, N 8, A 11; the unit 0x1234 (36), the starts 1 and 5 (40), hashes (48),
 // strings (80), entry offsets (112), abbreviations (144): code 1, tag 46, die_offset ref1; code 2, tag 52, no attributes. The pool from 155
@@ -172,3 +172,12 @@ pub const BIG: [u8; 212] = *b"\xff\xff\xff\xff\x00\x00\x00\x00\x00\x00\x00\x87\x
     \x00\x00\x00\x00\
     \x01\x2e\x03\x13\x00\x00\x00\
     \x01\x00\x00\x01\x00\x00";
+
+// A section with another byte at a place.
+pub fn changed<const N: usize>(section: [u8; N], at: usize, byte: u8) -> [u8; N] {
+    let mut next = section;
+    if let Some(place) = next.get_mut(at) {
+        *place = byte;
+    }
+    next
+}

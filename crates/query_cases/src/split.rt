@@ -4,98 +4,38 @@
 //
 // The name is asked for, with the hash 0, in the section `SPLIT` with each of these bytes put at its place, all in decimal digits. A line that
 // begins with # is a remark, and an empty one is passed over.
-use crate::ask::little;
-use crate::sections::SPLIT;
+use crate::ask::{ask, little};
+use crate::sections::{SPLIT, changed};
 use std::io;
-
-// The section, and of the change that is being read the place, and the number that is not finished.
-#[derive(Clone, Copy)]
-struct Changed {
-    bytes: [u8; 189],
-    place: usize,
-    number: usize,
-}
-
-impl Changed {
-    // With one more byte of the text: a digit, the sign behind a place, or what stands behind a change.
-    fn with(self, byte: u8) -> Changed {
-        let number = self.number;
-        let place = self.place;
-        let mut next = self;
-        if b'0' <= byte && byte <= b'9' {
-            next.number = (10 * (number % 1000) + (byte - b'0') as usize) % 1000;
-            return next;
-        }
-        if byte == b'=' {
-            next.place = number;
-        } else {
-            if place < 189 {
-                next.bytes[place] = (number % 256) as u8;
-            }
-            next.place = 189;
-        }
-        next.number = 0;
-        next
-    }
-}
 
 // The cases of a text.
 pub fn lines(rt: &impl Print, text: &[u8]) -> io::Result<()> {
-    let mut from = 0;
-    for at in 0..text.len() {
-        if from <= at && text[at] == b'\n' {
-            case(rt, &text[from..at])?;
-            from = at + 1;
+    for line in text.split(|b| *b == b'\n') {
+        if !line.is_empty() && !line.starts_with(b"#") {
+            case(rt, line)?;
         }
     }
     Ok(())
 }
 
 fn case(rt: &impl Print, line: &[u8]) -> io::Result<()> {
-    if line.len() == 0 {
-        return Ok(());
-    }
-    if line[0] == b'#' {
-        return Ok(());
-    }
-    let comma = first(line, b',');
-    let semicolon = first(line, b';');
-    if line.len() < comma {
-        return Ok(());
-    }
-    if line.len() < semicolon {
-        return Ok(());
-    }
-    let section = section(line, semicolon);
-    little(
-        rt,
-        &line[0..semicolon],
-        &section.bytes,
-        0,
-        &line[0..comma],
-        4,
+    let mut parts = line.split(|b| *b == b';');
+    let title = parts.next().unwrap_or(b"");
+    let changes = parts.next().unwrap_or(b"");
+    let name = title.split(|b| *b == b',').next().unwrap_or(b"");
+    ask(rt, little(&section(changes)), title, 0, name, 4)
+}
+
+// The section with these changes.
+fn section(changes: &[u8]) -> [u8; 189] {
+    changes.split(|b| *b == b' ').filter_map(change).fold(
+        SPLIT,
+        |section, (place, byte)| changed(section, place, byte),
     )
 }
 
-// The first place of a byte in a line, or the line's end.
-fn first(line: &[u8], byte: u8) -> usize {
-    for at in 0..line.len() {
-        if line[at] == byte {
-            return at;
-        }
-    }
-    line.len()
-}
-
-// The section with the changes that stand from this place on.
-fn section(line: &[u8], from: usize) -> Changed {
-    let mut changed = Changed {
-        bytes: SPLIT,
-        place: 189,
-        number: 0,
-    };
-    for at in from..line.len() {
-        changed = changed.with(line[at]);
-    }
-    changed.with(b' ')
+// A change: its place and its byte.
+fn change(text: &[u8]) -> Option<(usize, u8)> {
+    let (place, byte) = str::from_utf8(text).ok()?.split_once('=')?;
+    Some((place.parse().ok()?, byte.parse().ok()?))
 }

@@ -1,12 +1,12 @@
 -- What a query answers, and what there is to write: document 01, "The section query". `s` is .debug_names and `strs` is .debug_str; `text` has
 -- the bytes of the name that is asked for.
-use Rattle.std.specs.Prelude.{ℕ, false, cond, List, [], ◌∷◌, take}
+use Rattle.std.specs.Prelude.{ℕ, List, [], ◌++◌, take, None, option_to_list, Result}
 use Rattle.reader.specs.Outcome.{Outcome, answered, refused}
 use Rattle.reader.specs.Listing.{Listing, items_of, counted}
+use Rattle.reader.specs.declared.error.Error.{Error}
 use Rattle.reader.specs.declared.endianity.RunTimeEndian.{RunTimeEndian}
 use Rattle.records.specs.declared.record.Record.{Record}
 use Rattle.section_records.specs.Records.{section_records, query_left, first_record}
-use Rattle.query_plan.specs.declared.QueryRead.{QueryRead}
 use Rattle.query_plan.specs.declared.Writing.{Writing}
 use Rattle.query_plan.specs.declared.Plan.{Plan}
 
@@ -31,25 +31,8 @@ planned order s strs hash text = queried (section_records order s strs hash text
 -- what there is left to write, the first record before the others if it is still to be written,
 unfoldable pub writing_left : RunTimeEndian → List ℕ → List ℕ → ℕ → List ℕ → Writing → List Record
 writing_left order s strs hash text w =
-    take w.left (cond w.fresh (w.first ∷ items_of (query_left order s strs hash text w.cursor)) (items_of (query_left order s strs hash text w.cursor)))
+    take w.left (option_to_list w.first ++ items_of (query_left order s strs hash text w.cursor))
 
 -- and a plan with nothing to write
-abbrev pub nothing_to_write : QueryRead → Plan
-nothing_to_write answer = record {
-  answer = answer;
-  writing = record {
-    left = 0;
-    fresh = false;
-    first = record {
-      unit_value = 0;
-      die_offset = record { 0 = 0 };
-      index_offset = 0;
-      entry_offset = 0;
-      name = record { 0 = 0 };
-      tag = 0;
-      unit_kind = 0;
-      has_die_offset = 0;
-    };
-    cursor = first_record;
-  };
-}
+abbrev pub nothing_to_write : Result ℕ Error → Plan
+nothing_to_write answer = record { answer = answer; writing = record { left = 0; first = None; cursor = first_record } }

@@ -3,101 +3,74 @@
 //
 // What is counted first is kept, the first record and the cursor after it: so a query with one record reads nothing twice, and the walk
 // that writes begins with the first record and ends with the last that there is room for.
+// (order, section, strings, hash, name) stay parameters: with a struct that lends slices, contracts are no plainer (docs/DECISIONS.md).
 #![tactic(auto)]
 
 ghost use Rattle.std.specs.Prelude.{◌≡◌, ◌+◌, ◌<◌, ◌^◌};
+ghost use Rattle.reader.specs.Answers.{outcome};
 ghost use Rattle.reader.specs.Listing.{counted, items};
 ghost use Rattle.section_records.specs.Records.{query_left};
 ghost use Rattle.query_plan.specs.Plans.{planned, writing_left, nothing_to_write};
-ghost use Rattle.query_plan.specs.Answers.{query_outcome, write_left, plan_outcome};
+ghost use Rattle.query_plan.specs.Answers.{write_left, plan_outcome};
 
-use reader::{Error, NameTableIndex, RunTimeEndian, UnitOffset, too_long};
+use reader::{Error, RunTimeEndian, too_long};
 use records::Record;
-use section_records::{QueryIter, QueryStep, first_record};
+use section_records::{QueryIter, first_record};
 
-// How many records there are, or the refusal.
-#[derive(Clone, Copy)]
-pub enum QueryRead {
-    Total(u64),
-    Refused(Error),
-}
-
-// What there is to write: how many records are left, the first of all, whether it is still to be written, and the cursor after it or after
-// the last that was written.
+// What there is to write: how many records are left, the first of all if it is still to be written, and the cursor after it or after the last
+// that was written.
 #[derive(Clone, Copy)]
 pub struct Writing {
     pub left: u64,
-    pub fresh: bool,
-    pub first: Record,
+    pub first: Option<Record>,
     pub cursor: QueryIter,
 }
 
-// What the query answers, and what there is to write.
+// What the query answers, and what there is to write: where it refuses, that is nothing, so that one loop writes. (No `Result`: a refusal has a
+// writing too.)
 #[derive(Clone, Copy)]
 pub struct Plan {
-    pub answer: QueryRead,
+    pub answer: Result<u64, Error>,
     pub writing: Writing,
 }
 
-// The next record to write, and what there is after it.
-#[derive(Clone, Copy)]
-pub enum WriteStep {
-    Record(Record, Writing),
-    End,
-}
-
 // How many records there are from a cursor on.
+#[tactic(auto, using(reader::proofs::ListingLaws::plus_none, crate::proofs::PlanLaws::one_more, crate::proofs::PlanLaws::all_counted, crate::proofs::PlanLaws::not_counted, crate::proofs::PlanLaws::one_item))]
 fn count_from(
-    c: QueryIter,
+    from: QueryIter,
     order: RunTimeEndian,
     section: &[u8],
     strings: &[u8],
     hash: u32,
     name: &[u8],
-) -> QueryRead
-    requires { items (query_left order section.now strings.now hash name.now c) < 2 ^ 64 }
-    ensures { query_outcome result ≡ counted (query_left order section.now strings.now hash name.now c) }
+) -> Result<u64, Error>
+    requires { items (query_left order section.now strings.now hash name.now from) < 2 ^ 64 }
+    ensures { outcome result ≡ counted (query_left order section.now strings.now hash name.now from) }
 {
-    let mut at = c;
+    let mut cursor = from;
     let mut count: u64 = 0;
-    loop {
-        match at.next(order, section, strings, hash, name) {
-            QueryStep::Record(_, after) => {
-                count = count + 1;
-                at = after;
-            }
-            QueryStep::End => return QueryRead::Total(count),
-            QueryStep::Refused(e) => return QueryRead::Refused(e),
-        }
+    while cursor.next(order, section, strings, hash, name)?.is_some() {
+        count += 1;
     }
+    Ok(count)
 }
 
-// Nothing to write.
-fn nothing(answer: QueryRead) -> Plan
+// Nothing to write. (An answer alone is no plan, so no `From`.)
+fn nothing(answer: Result<u64, Error>) -> Plan
     ensures { result ≡ nothing_to_write answer }
 {
-    let cursor = first_record();
     Plan {
-        answer: answer,
+        answer,
         writing: Writing {
             left: 0,
-            fresh: false,
-            first: Record {
-                unit_value: 0,
-                die_offset: UnitOffset(0),
-                index_offset: 0,
-                entry_offset: 0,
-                name: NameTableIndex(0),
-                tag: 0,
-                unit_kind: 0,
-                has_die_offset: 0,
-            },
-            cursor: cursor,
+            first: None,
+            cursor: first_record(),
         },
     }
 }
 
 // Counts the records of the section, and keeps the first.
+#[tactic(auto, unfolding(crate::specs::Plans::writing_left), using(crate::proofs::PlanLaws::planned_by, crate::proofs::PlanLaws::queried_ended, crate::proofs::PlanLaws::queried_broken, crate::proofs::PlanLaws::queried_item))]
 pub fn plan_query(
     order: RunTimeEndian,
     section: &[u8],
@@ -108,73 +81,51 @@ pub fn plan_query(
     ensures { plan_outcome order section.now strings.now hash name.now result ≡ planned order section.now strings.now hash name.now }
 {
     if too_long(section) {
-        return nothing(QueryRead::Refused(Error::SectionTooLong));
+        return nothing(Err(Error::SectionTooLong));
     }
     if too_long(strings) {
-        return nothing(QueryRead::Refused(Error::SectionTooLong));
+        return nothing(Err(Error::SectionTooLong));
     }
-    let before = first_record();
-    match before.next(order, section, strings, hash, name) {
-        QueryStep::Record(r, after) => {
-            match count_from(after, order, section, strings, hash, name) {
-                QueryRead::Total(more) => Plan {
-                    answer: QueryRead::Total(more + 1),
-                    writing: Writing {
-                        left: more + 1,
-                        fresh: true,
-                        first: r,
-                        cursor: after,
-                    },
+    let mut cursor = first_record();
+    match cursor.next(order, section, strings, hash, name) {
+        Ok(Some(first)) => match count_from(cursor, order, section, strings, hash, name) {
+            Ok(more) => Plan {
+                answer: Ok(more + 1),
+                writing: Writing {
+                    left: more + 1,
+                    first: Some(first),
+                    cursor,
                 },
-                QueryRead::Refused(e) => nothing(QueryRead::Refused(e)),
-            }
-        }
-        QueryStep::End => nothing(QueryRead::Total(0)),
-        QueryStep::Refused(e) => nothing(QueryRead::Refused(e)),
+            },
+            Err(e) => nothing(Err(e)),
+        },
+        Ok(None) => nothing(Ok(0)),
+        Err(e) => nothing(Err(e)),
     }
 }
 
 impl Writing {
     // The next record to write.
+    #[tactic(auto, using(crate::proofs::PlanLaws::take_none, crate::proofs::PlanLaws::take_first), unfolding(crate::specs::Plans::writing_left, reader::specs::Listing::items_of))]
     pub fn next(
-        self,
+        &mut self,
         order: RunTimeEndian,
         section: &[u8],
         strings: &[u8],
         hash: u32,
         name: &[u8],
-    ) -> WriteStep
-        ensures { write_left order section.now strings.now hash name.now result ≡ writing_left order section.now strings.now hash name.now self }
+    ) -> Option<Record>
+        ensures { write_left result (writing_left order section.now strings.now hash name.now self.new) ≡ writing_left order section.now strings.now hash name.now self.old }
     {
-        let first = self.first;
-        let cursor = self.cursor;
         if self.left == 0 {
-            return WriteStep::End;
+            return None;
         }
-        let left = self.left - 1;
-        if self.fresh {
-            return WriteStep::Record(
-                first,
-                Writing {
-                    left: left,
-                    fresh: false,
-                    first: first,
-                    cursor: cursor,
-                },
-            );
+        self.left -= 1;
+        if let Some(first) = self.first.take() {
+            return Some(first);
         }
-        match cursor.next(order, section, strings, hash, name) {
-            QueryStep::Record(r, after) => WriteStep::Record(
-                r,
-                Writing {
-                    left: left,
-                    fresh: false,
-                    first: first,
-                    cursor: after,
-                },
-            ),
-            QueryStep::End => WriteStep::End,
-            QueryStep::Refused(e) => WriteStep::End,
-        }
+        self.cursor
+            .next(order, section, strings, hash, name)
+            .unwrap_or(None)
     }
 }

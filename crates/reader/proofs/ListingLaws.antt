@@ -2,7 +2,7 @@
 use Prim.Native.Nat.{ℕ, zero, suc, ◌+◌, ◌-◌, ◌≤◌}
 use mathlib.Core.Path.{◌≡◌, refl, sym, ◌∙◌, ap}
 use mathlib.Core.List.{◌∷◌, ◌++◌}
-use mathlib.Core.Option.{Option, some, none}
+use Rattle.std.specs.Prelude.{Option, Some, None}
 use native.Mathlib.Omega.{arith}
 use lib.ListN.{length}
 use Rattle.reader.specs.Outcome.{Outcome, answered, refused, ◌>>=◌}
@@ -10,14 +10,14 @@ use Rattle.reader.specs.Listing.{Listing, ended, broken, item, listed, listing, 
 use Rattle.reader.proofs.OutcomeLaws.{refused-answered, same_answer, bind_answered}
 
 -- listings that begin with the same reading and go on in the same way are the same
-pub listed_same : {A : Type 0} (o : Outcome (Option A)) (f g : A → Listing A) → ((a : A) → o ≡ answered (some a) → f a ≡ g a) → listed o f ≡ listed o g
-listed_same (answered none) f g h = refl
-listed_same (answered (some a)) f g h = ap (item a) (h a refl)
+pub listed_same : {A : Type 0} (o : Outcome (Option A)) (f g : A → Listing A) → ((a : A) → o ≡ answered (Some a) → f a ≡ g a) → listed o f ≡ listed o g
+listed_same (answered None) f g h = refl
+listed_same (answered (Some a)) f g h = ap (item a) (h a refl)
 listed_same (refused n v) f g h = refl
 
 -- listings by readings that agree from a place on are the same from there on
 pub listing_agree : {A : Type 0} (read other : ℕ → Outcome (Option A)) (past : A → ℕ) (k at : ℕ)
-    → ((place : ℕ) → at ≤ place → read place ≡ other place) → ((place : ℕ) (a : A) → read place ≡ answered (some a) → place ≤ past a)
+    → ((place : ℕ) → at ≤ place → read place ≡ other place) → ((place : ℕ) (a : A) → read place ≡ answered (Some a) → place ≤ past a)
     → listing read past k at ≡ listing other past k at
 unfolding listing
 listing_agree read other past zero at same forward = refl
@@ -54,8 +54,8 @@ listing-items read past zero at = omega arith
 listing-items {A = A} read past (suc k) at = by_cases (read at) λ a. listing-items read past k (past a)
   where
     by_cases : (o : Outcome (Option A)) → ((a : A) → items (listing read past k (past a)) ≤ k) → items (listed o λ a. listing read past k (past a)) ≤ suc k
-    by_cases (answered none) more = omega arith
-    by_cases (answered (some a)) more =
+    by_cases (answered None) more = omega arith
+    by_cases (answered (Some a)) more =
         let rest = more a in
         omega arith
     by_cases (refused n v) more = omega arith

@@ -1,17 +1,21 @@
 -- Laws of numbers of a fixed width, over the width and the byte order.
-use Prim.Native.Nat.{ℕ, zero, suc, ◌+◌, ◌*◌, ◌^◌, ◌%◌, ◌/◌, ◌≤◌, ◌<◌}
+use Prim.Native.Nat.{ℕ, zero, suc, ◌+◌, ◌-◌, ◌*◌, ◌^◌, ◌%◌, ◌/◌, ◌≤◌, ◌<◌}
 use mathlib.Core.Path.{◌≡◌, refl, sym, ap, ◌∙◌}
 use mathlib.Core.List.{List, [], ◌∷◌, ◌++◌, reverse, reverse-append, reverse-reverse, reverse-cons}
 use mathlib.Core.Logic.{◌⊎◌, inl, inr, ⊎_elim}
-use native.Mathlib.Nat.{mul_assoc, mul-add, pow-succ', mod-add-div}
+use native.Mathlib.Nat.{mul_assoc, mul_comm, mul-add, pow-succ', mod-add-div}
 use native.Mathlib.Omega.{arith}
+use Rattle.std.proofs.lemmas.List.{take_all}
 use lib.ListN.{length, take, drop, get_or, length-take, length-drop, length-reverse, length-append}
-use lib.Seq.{slice, take-add, drop-drop, drop-cons, take_at}
+use lib.Seq.{slice, take-suc, take-add, drop-drop, drop-cons, take_at}
 use lib.Dec.{ltb, eqb}
+use Rattle.std.specs.Int.{byte_worth, sum_through}
 use Rattle.reader.specs.Outcome.{answered, refused}
 use Rattle.reader.specs.Parts.{part_end, left_at, skipped}
-use Rattle.reader.specs.Numbers.{Bytes, no_bytes, byte_then, digits, spelled, digits_of, bytes_of, number_at, Read, read_number, read_byte, Length, initial_length}
+use Rattle.reader.specs.Numbers.{Bytes, no_bytes, byte_then, digits, spelled, digits_of, bytes_of, number_at, read_number, read_byte, initial_length}
 use Rattle.reader.specs.Sanity.{BytesSpell, SpelledBytes, NumbersReadBack, NumbersBelow, LengthsBelow, NumbersForward, LengthsForward, NumbersInPart, LengthsInPart}
+use Rattle.reader.specs.declared.reader.Read.{Read}
+use Rattle.reader.specs.declared.reader.InitialLength.{InitialLength}
 use Rattle.reader.specs.declared.endianity.RunTimeEndian.{RunTimeEndian}
 use Rattle.reader.specs.declared.endianity.RunTimeEndian.TheVariants.{Little, Big}
 use Rattle.reader.proofs.OutcomeLaws.{bind_answered, cond-answered, cond_is, same_answer, bind_same}
@@ -21,6 +25,42 @@ pub digits_append : (xs ys : List ℕ) → digits (xs ++ ys) ≡ digits xs + 256
 unfolding digits
 digits_append [] ys = omega arith
 digits_append (x ∷ xs) ys = rw (digits_append xs ys, pow-succ', mul-add, mul_assoc) (omega arith)
+
+-- what the library's `from_le_bytes` and `from_be_bytes` make of bytes is what they spell in that order
+worth : (i b : ℕ) → byte_worth i b ≡ 256 ^ i * b
+worth zero b = omega arith
+worth (suc i) b = mul_comm b (256 ^ suc i)
+
+little_sum : (bs : List ℕ) (k : ℕ) → k < length bs → sum_through (λ i. byte_worth i (get_or bs i 0)) k ≡ digits (take (suc k) bs)
+unfolding digits
+little_sum [] zero h = elim h [ ]
+little_sum (b ∷ bs) zero h = omega arith
+little_sum bs (suc k) h =
+    let front : length (take (suc k) bs) ≡ suc k = simp length-take (omega arith) in
+    rw (take-suc bs (suc k) 0 h, digits_append, front, little_sum bs k (omega arith), worth (suc k)) (omega arith)
+
+big_sum : (bs : List ℕ) (m k : ℕ) → k < length bs → k ≤ m → sum_through (λ i. byte_worth (m - i) (get_or bs i 0)) k ≡ 256 ^ (m - k) * digits (reverse (take (suc k) bs))
+unfolding digits
+big_sum [] m zero h le = elim h [ ]
+big_sum (b ∷ bs) m zero h le = rw (worth (m - 0) b) (omega arith)
+big_sum bs m (suc k) h le =
+    let above : m - k ≡ suc (m - suc k) = omega arith in
+    rw (take-suc bs (suc k) 0 h, reverse-append, big_sum bs m k (omega arith) (omega arith), above, pow-succ', worth (m - suc k), mul-add, mul_assoc) (omega arith)
+
+pub little_number : (order : RunTimeEndian) (k : ℕ) (s : List ℕ) (at : ℕ) (bs : List ℕ) → order ≡ Little → bs ≡ take (suc k) (drop at s) → at + suc k ≤ length s
+    → sum_through (λ i. byte_worth i (get_or bs i 0)) k ≡ number_at order (suc k) s at
+unfolding number_at spelled
+little_number order k s at bs little here fits =
+    let all : length bs ≡ suc k = rw here (simp (length-take, length-drop) (omega arith)) in
+    rw (little, ← here) (rw (take_all (suc k) bs (omega arith)) at (little_sum bs k (omega arith)))
+
+pub big_number : (order : RunTimeEndian) (k : ℕ) (s : List ℕ) (at : ℕ) (bs : List ℕ) → order ≡ Big → bs ≡ take (suc k) (drop at s) → at + suc k ≤ length s
+    → sum_through (λ i. byte_worth (k - i) (get_or bs i 0)) k ≡ number_at order (suc k) s at
+unfolding number_at spelled
+big_number order k s at bs big here fits =
+    let all : length bs ≡ suc k = rw here (simp (length-take, length-drop) (omega arith)) in
+    let none : k - k ≡ 0 = omega arith in
+    rw (big, ← here) (rw (take_all (suc k) bs (omega arith), none) at (big_sum bs k k (omega arith) (omega arith)) ∙ omega arith)
 
 -- where the low and the high half of a number of n + n bytes stand
 abbrev low_at : RunTimeEndian → ℕ → ℕ → ℕ
@@ -77,7 +117,7 @@ one_byte Little s at end = refl
 one_byte Big s at end = rw (one_reversed (slice at end s))
 
 -- what an answered read says: it lies inside the part, the number is what the bytes spell, and the next place is past them
-pub read_answered : (n : ℕ) (order : RunTimeEndian) (s : List ℕ) (at end : ℕ) (r : Read) → read_number n order s at end ≡ answered r
+pub read_answered : (n : ℕ) (order : RunTimeEndian) (s : List ℕ) (at end : ℕ) (r : Read ℕ) → read_number n order s at end ≡ answered r
     → (at + n ≤ part_end s end) × (r.value ≡ number_at order n s at) × (r.next ≡ at + n)
 unfolding read_number
 read_answered n order s at end r e =
@@ -88,7 +128,7 @@ read_answered n order s at end r e =
       ap (λ q. q.next) (sym (same_answer same)) ∙ place,
     )
 
-pub byte-answered : (s : List ℕ) (at end : ℕ) (r : Read) → read_byte s at end ≡ answered r
+pub byte-answered : (s : List ℕ) (at end : ℕ) (r : Read ℕ) → read_byte s at end ≡ answered r
     → (at + 1 ≤ part_end s end) × (r.value ≡ get_or s at 0) × (r.next ≡ at + 1)
 unfolding read_byte
 byte-answered s at end r e =
@@ -100,17 +140,17 @@ pub number_read : (n : ℕ) (order : RunTimeEndian) (s : List ℕ) (at end : ℕ
 unfolding read_number
 number_read n order s at end h = rw (skip_inside n s at end h, number_in_part order n s at end (omega arith))
 
-pub number-missing : (n : ℕ) (order : RunTimeEndian) (s : List ℕ) (at end : ℕ) → part_end s end < at + n → read_number n order s at end ≡ refused 1 at
+pub number_missing : (n : ℕ) (order : RunTimeEndian) (s : List ℕ) (at end : ℕ) → part_end s end < at + n → read_number n order s at end ≡ refused 1 at
 unfolding read_number
-number-missing n order s at end h = rw (skip_past n s at end h)
+number_missing n order s at end h = rw (skip_past n s at end h)
 
 pub byte_read : (s : List ℕ) (at end : ℕ) → at + 1 ≤ part_end s end → read_byte s at end ≡ answered (record { value = get_or s at 0; next = at + 1 })
 unfolding read_byte
 byte_read s at end h = rw (number_read 1 Little s at end h, number-one Little s at (omega arith))
 
-pub byte-missing : (s : List ℕ) (at end : ℕ) → part_end s end < at + 1 → read_byte s at end ≡ refused 1 at
+pub byte_missing : (s : List ℕ) (at end : ℕ) → part_end s end < at + 1 → read_byte s at end ≡ refused 1 at
 unfolding read_byte
-byte-missing s at end h = number-missing 1 Little s at end h
+byte_missing s at end h = number_missing 1 Little s at end h
 
 -- a read of at least one byte is read forward
 pub read_forward : NumbersForward
@@ -219,10 +259,10 @@ pub number-written : (order : RunTimeEndian) (n v : ℕ) (before after : List �
 number-written order n v before after some h = read_back order n v (before ++ (bytes_of order n v ++ after)) after (length before) (length (before ++ (bytes_of order n v ++ after))) some h (slice-after before (bytes_of order n v ++ after))
 
 -- an initial length is a number of 4 bytes, or one of 8 after it
-length_cases : (order : RunTimeEndian) (s : List ℕ) (at end : ℕ) (l : Length) → initial_length order s at end ≡ answered l
-    → (first : Read) × (read_number 4 order s at end ≡ answered first)
+length_cases : (order : RunTimeEndian) (s : List ℕ) (at end : ℕ) (l : InitialLength) → initial_length order s at end ≡ answered l
+    → (first : Read ℕ) × (read_number 4 order s at end ≡ answered first)
     × (((l.length ≡ first.value) × (l.next ≡ first.next))
-    ⊎ ((wide : Read) × (read_number 8 order s first.next end ≡ answered wide) × (l.length ≡ wide.value) × (l.next ≡ wide.next)))
+    ⊎ ((wide : Read ℕ) × (read_number 8 order s first.next end ≡ answered wide) × (l.length ≡ wide.value) × (l.next ≡ wide.next)))
 unfolding initial_length
 length_cases order s at end l e =
     let (first, p, q) = bind_answered (read_number 4 order s at end) _ l e in (

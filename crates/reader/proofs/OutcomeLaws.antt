@@ -3,6 +3,7 @@ use Prim.Native.Nat.{ℕ}
 use mathlib.Core.Path.{◌≡◌, refl, ap, ◌∙◌}
 use mathlib.Core.Bool.{Bool, true, false, cond}
 use mathlib.Core.Logic.{◌⊎◌, inl, inr}
+use Rattle.std.specs.Prelude.{Option, Some, None}
 use native.Mathlib.Omega.{arith}
 use Rattle.reader.specs.Outcome.{Outcome, answered, refused, ◌>>=◌, ◌>>◌, demand, refuse_if}
 
@@ -11,6 +12,13 @@ refused-answered e = let z : ◌≡◌ {A = ℕ} 0 1 = cc in omega arith
 
 pub same_answer : {A : Type 0} {a b : A} → answered a ≡ answered b → a ≡ b
 same_answer e = cc
+
+-- no item is not an item, and equal items are one
+pub none-ne-some : {A : Type 0} (a : A) → ◌≡◌ {A = Option A} None (Some a) → ⊥
+none-ne-some a e = let z : ◌≡◌ {A = ℕ} 0 1 = cc in omega arith
+
+pub some-injective : {A : Type 0} (a b : A) → ◌≡◌ {A = Option A} (Some a) (Some b) → a ≡ b
+some-injective a b e = cc
 
 -- a chain that is answered went on from an answer
 pub bind_answered : {A B : Type 0} (m : Outcome A) (f : A → Outcome B) (b : B) → (m >>= f) ≡ answered b → (a : A) × (m ≡ answered a) × (f a ≡ answered b)

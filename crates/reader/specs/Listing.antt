@@ -1,6 +1,8 @@
 -- What stands one after another in a part (declarations, entries, headers), as a list that also tells how it ended.
 use Rattle.std.specs.Prelude.{ℕ, zero, suc, ◌+◌, ◌≤◌, ◌<◌, ◌≡◌, List, [], ◌∷◌}
-use Rattle.std.proofs.Math.Option.{Option, some, none}
+use Rattle.std.specs.Prelude.{Option, Some, None, Result, Ok, Err}
+use Rattle.reader.specs.Errors.{number_of, value_of}
+use Rattle.reader.specs.declared.error.Error.{Error}
 use Rattle.reader.specs.Outcome.{Outcome, answered, refused, ◌>>=◌}
 
 pub data Listing (A : Type 0) : Type 0 where
@@ -13,25 +15,31 @@ pub data Listing (A : Type 0) : Type 0 where
 
 -- what was read, and what follows it
 abbrev pub listed : {A : Type 0} → Outcome (Option A) → (A → Listing A) → Listing A
-listed (answered none) more = ended
-listed (answered (some a)) more = item a (more a)
+listed (answered None) more = ended
+listed (answered (Some a)) more = item a (more a)
 listed (refused n v) more = broken n v
 
 -- what `read` gives from the place `at` on, each item beginning where the last ended (`past`), up to the first none or refusal.
--- Given as many turns as bytes are left, it has turns enough (`Listing-step`).
+-- Given as many turns as bytes are left, it has turns enough (`listing_step`).
 unfoldable pub listing : {A : Type 0} → (ℕ → Outcome (Option A)) → (A → ℕ) → ℕ → ℕ → Listing A
 listing read past zero at = ended
 listing read past (suc turns) at = listed (read at) λ a. listing read past turns (past a)
 
 -- a reading of what stands in a part up to `stop`: each item takes at least a byte and stays inside, and at the stop there is none
 pub record Advances {A : Type 0} (read : ℕ → Outcome (Option A)) (past : A → ℕ) (stop : ℕ) : Type 0 where
-  pub forward : (at : ℕ) (a : A) → read at ≡ answered (some a) → (at < past a) × (past a ≤ stop)
-  pub none_at_stop : (at : ℕ) → stop ≤ at → read at ≡ answered none
+  pub forward : (at : ℕ) (a : A) → read at ≡ answered (Some a) → (at < past a) × (past a ≤ stop)
+  pub none_at_stop : (at : ℕ) → stop ≤ at → read at ≡ answered None
 
 -- where the outcome is answered, what follows from the answer; where it is refused, a list that is broken off at once
 abbrev pub or_broken : {A B : Type 0} → Outcome A → (A → Listing B) → Listing B
 or_broken (answered a) more = more a
 or_broken (refused n v) more = broken n v
+
+-- the same of the code's own answers: after an item what follows from it, after none nothing, and a refusal breaks the list off
+abbrev pub left_by : {A B : Type 0} → Result (Option A) Error → (A → Listing B) → Listing B
+left_by (Ok (Some a)) more = more a
+left_by (Ok None) more = ended
+left_by (Err e) more = broken (number_of e) (value_of e)
 
 -- one list after another: where the first is broken off, so is the whole
 unfoldable pub followed_by : {A : Type 0} → Listing A → Listing A → Listing A
@@ -69,4 +77,4 @@ items (item a rest) = suc (items rest)
 unfoldable pub answers_of : {A B : Type 0} → (A → B) → Listing A → List (Outcome (Option B))
 answers_of shown ended = []
 answers_of shown (broken n v) = refused n v ∷ []
-answers_of shown (item a rest) = answered (some (shown a)) ∷ answers_of shown rest
+answers_of shown (item a rest) = answered (Some (shown a)) ∷ answers_of shown rest

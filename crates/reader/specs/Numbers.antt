@@ -3,6 +3,8 @@ use Rattle.std.specs.Prelude.{ℕ, zero, suc, ◌+◌, ◌*◌, ◌%◌, ◌/◌
 use Rattle.std.proofs.Math.Seq.{slice}
 use Rattle.reader.specs.Outcome.{Outcome, answered, refused, ◌>>=◌}
 use Rattle.reader.specs.Parts.{skipped}
+use Rattle.reader.specs.declared.reader.Read.{Read}
+use Rattle.reader.specs.declared.reader.InitialLength.{InitialLength}
 use Rattle.reader.specs.declared.endianity.RunTimeEndian.{RunTimeEndian}
 use Rattle.reader.specs.declared.endianity.RunTimeEndian.TheVariants.{Little, Big}
 use Rattle.reader.specs.declared.common.Format.{Format}
@@ -37,19 +39,14 @@ bytes_of Big n v = reverse (digits_of n v)
 unfoldable pub number_at : RunTimeEndian → ℕ → List ℕ → ℕ → ℕ
 number_at order n s at = spelled order (take n (drop at s))
 
--- a number that was read, and the place past it
-pub record Read : Type 0 where
-  pub value : ℕ
-  pub next : ℕ
-
 -- the number of n bytes at `at`, and the place past it; refused as the skip over them is
-unfoldable pub read_number : ℕ → RunTimeEndian → List ℕ → ℕ → ℕ → Outcome Read
+unfoldable pub read_number : ℕ → RunTimeEndian → List ℕ → ℕ → ℕ → Outcome (Read ℕ)
 read_number n order s at end = do
   next ← skipped n s at end
   answered (record { value = spelled order (take n (slice at end s)); next = next })
 
 -- the byte at `at`: a number of one byte, which both orders spell alike (`one_byte`)
-unfoldable pub read_byte : List ℕ → ℕ → ℕ → Outcome Read
+unfoldable pub read_byte : List ℕ → ℕ → ℕ → Outcome (Read ℕ)
 read_byte s at end = read_number 1 Little s at end
 
 -- the bytes of a word of the format
@@ -57,14 +54,8 @@ abbrev pub word_size : Format → ℕ
 word_size Dwarf32 = 4
 word_size Dwarf64 = 8
 
--- an initial length, the format that it tells, and the place past it
-pub record Length : Type 0 where
-  pub length : ℕ
-  pub format : Format
-  pub next : ℕ
-
 -- 7.4: a number of 4 bytes below 0xfffffff0 is the length; 0xffffffff is followed by the length in 8 bytes; the rest is reserved
-unfoldable pub initial_length : RunTimeEndian → List ℕ → ℕ → ℕ → Outcome Length
+unfoldable pub initial_length : RunTimeEndian → List ℕ → ℕ → ℕ → Outcome InitialLength
 initial_length order s at end = do
   first ← read_number 4 order s at end
   cond (ltb first.value 0xfffffff0)

@@ -3,6 +3,7 @@
 -- the part's bytes from the place `at` on. Any numbers are legal places: where `at` lies past the end, the list is empty.
 use Rattle.std.specs.Prelude.{ℕ, ◌+◌, ◌-◌, ◌<◌, ◌≤◌, min, List, cond, length, leb}
 use Rattle.reader.specs.Outcome.{Outcome, answered, refused, ◌>>=◌}
+use Rattle.reader.specs.declared.reader.Part.{Part}
 
 -- where the part ends: at `end`, or with the section
 abbrev pub part_end : List ℕ → ℕ → ℕ
@@ -20,13 +21,8 @@ Forward s at end next = (at < next) × (next ≤ part_end s end)
 unfoldable pub skipped : ℕ → List ℕ → ℕ → ℕ → Outcome ℕ
 skipped n s at end = cond (leb (at + n) (part_end s end)) (answered (at + n)) (refused 1 at)
 
--- a part that was cut out of another: its place, and the place where it ends
-pub record Cut : Type 0 where
-  pub at : ℕ
-  pub end : ℕ
-
 -- the part of n bytes at `at`, refused as the skip over it is
-unfoldable pub cut : ℕ → List ℕ → ℕ → ℕ → Outcome Cut
+unfoldable pub cut : ℕ → List ℕ → ℕ → ℕ → Outcome Part
 cut n s at end = do
   next ← skipped n s at end
   answered (record { at = at; end = next })

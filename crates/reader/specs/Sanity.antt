@@ -3,8 +3,11 @@
 use Rattle.std.specs.Prelude.{ℕ, ◌+◌, ◌^◌, ◌≤◌, ◌<◌, ◌≡◌, List, ◌++◌, length}
 use Rattle.std.proofs.Math.Seq.{slice}
 use Rattle.reader.specs.Outcome.{answered}
-use Rattle.reader.specs.Parts.{part_end, Forward, Cut, cut}
-use Rattle.reader.specs.Numbers.{Bytes, spelled, bytes_of, Read, read_number, Length, initial_length}
+use Rattle.reader.specs.Parts.{part_end, Forward, cut}
+use Rattle.reader.specs.Numbers.{Bytes, spelled, bytes_of, read_number, initial_length}
+use Rattle.reader.specs.declared.reader.Read.{Read}
+use Rattle.reader.specs.declared.reader.InitialLength.{InitialLength}
+use Rattle.reader.specs.declared.reader.Part.{Part}
 use Rattle.reader.specs.declared.endianity.RunTimeEndian.{RunTimeEndian}
 
 -- `bytes_of` and `spelled` are inverse: a number that fits has bytes that spell it, and bytes are those of what they spell
@@ -22,17 +25,17 @@ NumbersReadBack =
 
 -- every number read is below its width
 abbrev pub NumbersBelow : Type 0
-NumbersBelow = (n : ℕ) (order : RunTimeEndian) (s : List ℕ) (at end : ℕ) (r : Read) → Bytes s → read_number n order s at end ≡ answered r → r.value < 256 ^ n
+NumbersBelow = (n : ℕ) (order : RunTimeEndian) (s : List ℕ) (at end : ℕ) (r : Read ℕ) → Bytes s → read_number n order s at end ≡ answered r → r.value < 256 ^ n
 
 abbrev pub LengthsBelow : Type 0
-LengthsBelow = (order : RunTimeEndian) (s : List ℕ) (at end : ℕ) (l : Length) → Bytes s → initial_length order s at end ≡ answered l → l.length < 2 ^ 64
+LengthsBelow = (order : RunTimeEndian) (s : List ℕ) (at end : ℕ) (l : InitialLength) → Bytes s → initial_length order s at end ≡ answered l → l.length < 2 ^ 64
 
 -- an answered read moves forward by at least one byte and stays inside its part
 abbrev pub NumbersForward : Type 0
-NumbersForward = (n : ℕ) (order : RunTimeEndian) (s : List ℕ) (at end : ℕ) (r : Read) → 1 ≤ n → read_number n order s at end ≡ answered r → Forward s at end r.next
+NumbersForward = (n : ℕ) (order : RunTimeEndian) (s : List ℕ) (at end : ℕ) (r : Read ℕ) → 1 ≤ n → read_number n order s at end ≡ answered r → Forward s at end r.next
 
 abbrev pub LengthsForward : Type 0
-LengthsForward = (order : RunTimeEndian) (s : List ℕ) (at end : ℕ) (l : Length) → initial_length order s at end ≡ answered l → Forward s at end l.next
+LengthsForward = (order : RunTimeEndian) (s : List ℕ) (at end : ℕ) (l : InitialLength) → initial_length order s at end ≡ answered l → Forward s at end l.next
 
 -- a read looks at no byte outside its part: of two sections with the same bytes there, it answers the same
 abbrev pub NumbersInPart : Type 0
@@ -45,4 +48,4 @@ LengthsInPart = (order : RunTimeEndian) (s t : List ℕ) (at end : ℕ) → slic
 
 -- a part that is cut out begins at its place, has n bytes, and lies inside the part that it is cut from
 abbrev pub CutsInside : Type 0
-CutsInside = (n : ℕ) (s : List ℕ) (at end : ℕ) (p : Cut) → cut n s at end ≡ answered p → (p.at ≡ at) × (p.end ≡ at + n) × (p.end ≤ part_end s end)
+CutsInside = (n : ℕ) (s : List ℕ) (at end : ℕ) (p : Part) → cut n s at end ≡ answered p → (p.at ≡ at) × (p.end ≡ at + n) × (p.end ≤ part_end s end)

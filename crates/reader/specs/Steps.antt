@@ -1,7 +1,9 @@
 -- Steps of a cursor: document 01, "Each step takes a cursor and hands back the cursor after it".
-use Rattle.std.specs.Prelude.{◌≡◌, List, [], ◌∷◌, length, take, ltb, Bool, true, false}
-use Rattle.std.proofs.Math.Option.{Option, some, none}
+use Rattle.std.specs.Prelude.{◌≡◌, List, [], ◌∷◌, length, map, take, ltb, Bool, true, false, Option, Some, None, Result}
 use Rattle.reader.specs.Outcome.{Outcome, answered, refused}
+use Rattle.reader.specs.Answers.{outcome}
+use Rattle.reader.specs.declared.error.Error.{Error}
+use Rattle.reader.specs.declared.step.Step.{Step as Given}
 
 -- what a step answers, none at the end, and the cursor after it
 pub record Step (A C : Type 0) : Type 0 where
@@ -13,24 +15,36 @@ abbrev pub keeping : {A C : Type 0} → C → Outcome (Step A C) → Step A C
 keeping c (answered t) = t
 keeping c (refused n v) = record { answer = refused n v; cursor = c }
 
--- A list of the code's own answers that are linked: each is what the step says of a cursor, the first of the cursor c, and each
--- next of the cursor that the one before it handed back. `step_of` is the step that an answer of the code stands for.
-pub data Linked {R A C : Type 0} (step_of : R → Step A C) (step : C → Step A C) : C → List R → Type 0 where
-  no_steps : {c : C} → Linked step_of step c []
-  step_then : {c : C} {r : R} {rs : List R} → step_of r ≡ step c → Linked step_of step (step_of r).cursor rs → Linked step_of step c (r ∷ rs)
+-- the step that the code has taken where it gave this answer and left this cursor
+abbrev pub step_of : {A C : Type 0} → Result (Option A) Error → C → Step A C
+step_of answer cursor = record { answer = outcome answer; cursor = cursor }
+
+-- a step as the code takes it: its struct `Step`, here by another name, since `Step` is the definitions' own
+abbrev pub Taken : Type 0 → Type 0 → Type 0
+Taken A C = Given A C
+
+-- A list of steps of the code that are linked: each is what the step says of a cursor, the first of the cursor c, and each next of the
+-- cursor that the one before it left.
+pub data Linked {A C : Type 0} (step : C → Step A C) : C → List (Taken A C) → Type 0 where
+  no_steps : {c : C} → Linked step c []
+  step_then : {c : C} {t : Taken A C} {ts : List (Taken A C)} → step_of t.answer t.cursor ≡ step c → Linked step t.cursor ts → Linked step c (t ∷ ts)
+
+-- what steps answered
+abbrev pub answers : {A C : Type 0} → List (Taken A C) → List (Outcome (Option A))
+answers ts = map (λ t. outcome t.answer) ts
 
 -- whether an end is among the answers
 unfoldable pub has_end : {A : Type 0} → List (Outcome (Option A)) → Bool
 has_end [] = false
-has_end (answered none ∷ os) = true
-has_end (answered (some a) ∷ os) = has_end os
+has_end (answered None ∷ os) = true
+has_end (answered (Some a) ∷ os) = has_end os
 has_end (refused n v ∷ os) = has_end os
 
 -- the answers up to the first end
 unfoldable pub up_to_end : {A : Type 0} → List (Outcome (Option A)) → List (Outcome (Option A))
 up_to_end [] = []
-up_to_end (answered none ∷ os) = []
-up_to_end (answered (some a) ∷ os) = answered (some a) ∷ up_to_end os
+up_to_end (answered None ∷ os) = []
+up_to_end (answered (Some a) ∷ os) = answered (Some a) ∷ up_to_end os
 up_to_end (refused n v ∷ os) = refused n v ∷ up_to_end os
 
 -- Demand 3, of the answers of a list of steps and what their lookup has to list. The answers up to the first end are its beginning, in

@@ -4,11 +4,12 @@ ghost use Rattle.std.specs.Prelude.{◌≡◌};
 ghost use Rattle.reader.specs.Numbers.{word_size};
 
 // Whether lengths and offsets have 4 bytes or 8: DWARF 5, section 7.4.
-#[derive(Clone, Copy)]
+#[derive(Clone, Copy, Default)]
 pub enum Format {
     // 64-bit DWARF: words of 8 bytes.
     Dwarf64,
     // 32-bit DWARF: words of 4 bytes.
+    #[default]
     Dwarf32,
 }
 

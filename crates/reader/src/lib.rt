@@ -9,7 +9,9 @@
 pub mod error; // why a call says no
 pub mod endianity; // the byte order
 pub mod common; // the format, and the offset types
-pub mod reader; // numbers of fixed width, words, initial length, skip, split
+pub mod number; // numbers of a fixed width
+pub mod step; // steps of a cursor
+pub mod reader; // a byte, a number, a word, the initial length, skip, split
 
 pub use common::{
     DebugInfoOffset, DebugNamesOffset, DebugStrOffset, DebugTypeSignature, Format, NameEntryOffset,
@@ -17,8 +19,9 @@ pub use common::{
 };
 pub use endianity::RunTimeEndian;
 pub use error::{Error, too_long};
+pub use number::Number;
 pub use reader::{
-    InitialLength, LengthRead, Part, PartRead, Read8, Read16, Read32, Read64, ReadWord, Skipped,
-    U8Read, U16Read, U32Read, U64Read, WordRead, is_empty, read_initial_length, read_offset,
-    read_u8, read_u16, read_u32, read_u64, read_word, skip, split, u32_at,
+    InitialLength, Part, Read, is_empty, read_initial_length, read_number, read_offset, read_u8,
+    read_word, skip, split,
 };
+pub use step::Step;

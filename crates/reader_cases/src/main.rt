@@ -5,12 +5,12 @@
 use leb128::read;
 use reader::{
     DebugStrOffset, Error, Format, NameEntryOffset, RunTimeEndian, read_initial_length,
-    read_offset, read_u8, read_u16, read_u32, read_u64, read_word, skip, split,
+    read_number, read_offset, read_u8, read_word, skip, split,
 };
 use std::io;
 use strings::DebugStr;
 
-const FAR: usize = 18446744073709551615;
+const FAR: usize = usize::MAX;
 
 fn main(rt: HostRuntime) -> io::Result<()> {
     refusals(&rt)?;
@@ -100,69 +100,69 @@ fn refusals(rt: &impl Print) -> io::Result<()> {
 
 fn words(rt: &impl Print) -> io::Result<()> {
     case(rt, b"word_size of Dwarf32")?;
-    show::ok1(rt, Format::Dwarf32.word_size() as u64)?;
+    show::ok(rt, &[Format::Dwarf32.word_size() as u64])?;
     case(rt, b"word_size of Dwarf64")?;
-    show::ok1(rt, Format::Dwarf64.word_size() as u64)
+    show::ok(rt, &[Format::Dwarf64.word_size() as u64])
 }
 
 fn bytes(rt: &impl Print, s: &[u8]) -> io::Result<()> {
     case(rt, b"u8, the last byte of the part")?;
-    show::u8_read(rt, read_u8(s, 7, 8))?;
+    show::number_read(rt, read_u8(s, 7, 8))?;
     case(rt, b"u8, at the end of the part")?;
-    show::u8_read(rt, read_u8(s, 8, 8))?;
+    show::number_read(rt, read_u8(s, 8, 8))?;
     case(rt, b"u8, past the end of the part")?;
-    show::u8_read(rt, read_u8(s, 9, 8))?;
+    show::number_read(rt, read_u8(s, 9, 8))?;
     case(rt, b"u8, the last byte of the section")?;
-    show::u8_read(rt, read_u8(s, 9, FAR))?;
+    show::number_read(rt, read_u8(s, 9, FAR))?;
     case(rt, b"u8, at the end of the section")?;
-    show::u8_read(rt, read_u8(s, 10, FAR))?;
+    show::number_read(rt, read_u8(s, 10, FAR))?;
     case(rt, b"u8, the largest place")?;
-    show::u8_read(rt, read_u8(s, FAR, FAR))
+    show::number_read(rt, read_u8(s, FAR, FAR))
 }
 
 fn halves(rt: &impl Print, s: &[u8]) -> io::Result<()> {
     case(rt, b"u16 little, at the end of the part")?;
-    show::u16_read(rt, read_u16(RunTimeEndian::Little, s, 6, 8))?;
+    show::number_read(rt, read_number::<u16>(RunTimeEndian::Little, s, 6, 8))?;
     case(rt, b"u16 big, at the end of the part")?;
-    show::u16_read(rt, read_u16(RunTimeEndian::Big, s, 6, 8))?;
+    show::number_read(rt, read_number::<u16>(RunTimeEndian::Big, s, 6, 8))?;
     case(rt, b"u16 little, one short")?;
-    show::u16_read(rt, read_u16(RunTimeEndian::Little, s, 7, 8))?;
+    show::number_read(rt, read_number::<u16>(RunTimeEndian::Little, s, 7, 8))?;
     case(rt, b"u16 big, one short")?;
-    show::u16_read(rt, read_u16(RunTimeEndian::Big, s, 7, 8))?;
+    show::number_read(rt, read_number::<u16>(RunTimeEndian::Big, s, 7, 8))?;
     case(rt, b"u16 little, at the end of the section")?;
-    show::u16_read(rt, read_u16(RunTimeEndian::Little, s, 8, FAR))?;
+    show::number_read(rt, read_number::<u16>(RunTimeEndian::Little, s, 8, FAR))?;
     case(rt, b"u16 big, one short of the section's end")?;
-    show::u16_read(rt, read_u16(RunTimeEndian::Big, s, 9, FAR))
+    show::number_read(rt, read_number::<u16>(RunTimeEndian::Big, s, 9, FAR))
 }
 
 fn wide(rt: &impl Print, s: &[u8]) -> io::Result<()> {
     case(rt, b"u32 little, at the end of the part")?;
-    show::u32_read(rt, read_u32(RunTimeEndian::Little, s, 4, 8))?;
+    show::number_read(rt, read_number::<u32>(RunTimeEndian::Little, s, 4, 8))?;
     case(rt, b"u32 big, at the end of the part")?;
-    show::u32_read(rt, read_u32(RunTimeEndian::Big, s, 4, 8))?;
+    show::number_read(rt, read_number::<u32>(RunTimeEndian::Big, s, 4, 8))?;
     case(rt, b"u32 little, one short")?;
-    show::u32_read(rt, read_u32(RunTimeEndian::Little, s, 5, 8))?;
+    show::number_read(rt, read_number::<u32>(RunTimeEndian::Little, s, 5, 8))?;
     case(rt, b"u32 big, one short")?;
-    show::u32_read(rt, read_u32(RunTimeEndian::Big, s, 5, 8))?;
+    show::number_read(rt, read_number::<u32>(RunTimeEndian::Big, s, 5, 8))?;
     case(rt, b"u32 little, at the end of the section")?;
-    show::u32_read(rt, read_u32(RunTimeEndian::Little, s, 6, FAR))?;
+    show::number_read(rt, read_number::<u32>(RunTimeEndian::Little, s, 6, FAR))?;
     case(rt, b"u32 big, the largest place")?;
-    show::u32_read(rt, read_u32(RunTimeEndian::Big, s, FAR, FAR))
+    show::number_read(rt, read_number::<u32>(RunTimeEndian::Big, s, FAR, FAR))
 }
 
 fn full(rt: &impl Print, s: &[u8]) -> io::Result<()> {
     case(rt, b"u64 little, at the end of the part")?;
-    show::u64_read(rt, read_u64(RunTimeEndian::Little, s, 0, 8))?;
+    show::number_read(rt, read_number::<u64>(RunTimeEndian::Little, s, 0, 8))?;
     case(rt, b"u64 big, at the end of the part")?;
-    show::u64_read(rt, read_u64(RunTimeEndian::Big, s, 0, 8))?;
+    show::number_read(rt, read_number::<u64>(RunTimeEndian::Big, s, 0, 8))?;
     case(rt, b"u64 little, one short")?;
-    show::u64_read(rt, read_u64(RunTimeEndian::Little, s, 1, 8))?;
+    show::number_read(rt, read_number::<u64>(RunTimeEndian::Little, s, 1, 8))?;
     case(rt, b"u64 big, one short")?;
-    show::u64_read(rt, read_u64(RunTimeEndian::Big, s, 1, 8))?;
+    show::number_read(rt, read_number::<u64>(RunTimeEndian::Big, s, 1, 8))?;
     case(rt, b"u64 big, at the end of the section")?;
-    show::u64_read(rt, read_u64(RunTimeEndian::Big, s, 2, FAR))?;
+    show::number_read(rt, read_number::<u64>(RunTimeEndian::Big, s, 2, FAR))?;
     case(rt, b"u64 little, an empty part")?;
-    show::u64_read(rt, read_u64(RunTimeEndian::Little, s, 0, 0))
+    show::number_read(rt, read_number::<u64>(RunTimeEndian::Little, s, 0, 0))
 }
 
 fn word_reads(rt: &impl Print, s: &[u8]) -> io::Result<()> {
@@ -347,55 +347,55 @@ fn lengths_big(rt: &impl Print) -> io::Result<()> {
 
 fn unsigned(rt: &impl Print) -> io::Result<()> {
     case(rt, b"unsigned 00")?;
-    show::u64_read(rt, read::unsigned(b"\x00", 0, 1))?;
+    show::number_read(rt, read::unsigned(b"\x00", 0, 1))?;
     case(rt, b"unsigned 7f")?;
-    show::u64_read(rt, read::unsigned(b"\x7f", 0, 1))?;
+    show::number_read(rt, read::unsigned(b"\x7f", 0, 1))?;
     case(rt, b"unsigned 80 01")?;
-    show::u64_read(rt, read::unsigned(b"\x80\x01", 0, 2))?;
+    show::number_read(rt, read::unsigned(b"\x80\x01", 0, 2))?;
     case(rt, b"unsigned b9 64, section 7.6's 12857")?;
-    show::u64_read(rt, read::unsigned(b"\xb9\x64", 0, 2))?;
+    show::number_read(rt, read::unsigned(b"\xb9\x64", 0, 2))?;
     case(rt, b"unsigned e5 8e 26")?;
-    show::u64_read(rt, read::unsigned(b"\xe5\x8e\x26", 0, 3))?;
+    show::number_read(rt, read::unsigned(b"\xe5\x8e\x26", 0, 3))?;
     case(rt, b"unsigned 80 80 00, padded")?;
-    show::u64_read(rt, read::unsigned(b"\x80\x80\x00", 0, 3))?;
+    show::number_read(rt, read::unsigned(b"\x80\x80\x00", 0, 3))?;
     case(rt, b"unsigned, an empty part")?;
-    show::u64_read(rt, read::unsigned(b"\x01", 0, 0))?;
+    show::number_read(rt, read::unsigned(b"\x01", 0, 0))?;
     case(rt, b"unsigned 80, the second byte missing")?;
-    show::u64_read(rt, read::unsigned(b"\x80", 0, 1))?;
+    show::number_read(rt, read::unsigned(b"\x80", 0, 1))?;
     case(rt, b"unsigned 80 80, the third byte past the part")?;
-    show::u64_read(rt, read::unsigned(b"\x80\x80\x01", 0, 2))?;
+    show::number_read(rt, read::unsigned(b"\x80\x80\x01", 0, 2))?;
     case(rt, b"unsigned, past the end")?;
-    show::u64_read(rt, read::unsigned(b"\x01", 5, 9))
+    show::number_read(rt, read::unsigned(b"\x01", 5, 9))
 }
 
 fn unsigned_limits(rt: &impl Print) -> io::Result<()> {
     case(rt, b"unsigned, nine 80 then 00")?;
-    show::u64_read(
+    show::number_read(
         rt,
         read::unsigned(b"\x80\x80\x80\x80\x80\x80\x80\x80\x80\x00", 0, 10),
     )?;
     case(rt, b"unsigned, nine 80 then 01")?;
-    show::u64_read(
+    show::number_read(
         rt,
         read::unsigned(b"\x80\x80\x80\x80\x80\x80\x80\x80\x80\x01", 0, 10),
     )?;
     case(rt, b"unsigned, eight ff then 7f")?;
-    show::u64_read(
+    show::number_read(
         rt,
         read::unsigned(b"\xff\xff\xff\xff\xff\xff\xff\xff\x7f", 0, 9),
     )?;
     case(rt, b"unsigned, nine 80 then 02")?;
-    show::u64_read(
+    show::number_read(
         rt,
         read::unsigned(b"\x80\x80\x80\x80\x80\x80\x80\x80\x80\x02", 0, 10),
     )?;
     case(rt, b"unsigned, ten 80 then 00")?;
-    show::u64_read(
+    show::number_read(
         rt,
         read::unsigned(b"\x80\x80\x80\x80\x80\x80\x80\x80\x80\x80\x00", 0, 11),
     )?;
     case(rt, b"unsigned, nine 80, the tenth byte missing")?;
-    show::u64_read(
+    show::number_read(
         rt,
         read::unsigned(b"\x80\x80\x80\x80\x80\x80\x80\x80\x80", 0, 9),
     )
@@ -405,65 +405,65 @@ fn unsigned_limits(rt: &impl Print) -> io::Result<()> {
 fn unsigned_padded(rt: &impl Print) -> io::Result<()> {
     let mut s = *b"\x85\x80\x80\x80\x80\x80\x80\x80\x80\x80\x80\x80\x80\x80\x80\x80\x00\xff";
     case(rt, b"unsigned 85, fifteen 80, then 00")?;
-    show::u64_read(rt, read::unsigned(&s, 0, 18))?;
+    show::number_read(rt, read::unsigned(&s, 0, 18))?;
     case(rt, b"unsigned 85, fifteen 80, then 00, at 7")?;
-    show::u64_read(rt, read::unsigned(&s, 7, 18))?;
+    show::number_read(rt, read::unsigned(&s, 7, 18))?;
     case(rt, b"unsigned 85, fifteen 80, the part ends")?;
-    show::u64_read(rt, read::unsigned(&s, 0, 16))?;
+    show::number_read(rt, read::unsigned(&s, 0, 16))?;
     case(rt, b"unsigned 85, nine 80, the part ends")?;
-    show::u64_read(rt, read::unsigned(&s, 0, 10))?;
+    show::number_read(rt, read::unsigned(&s, 0, 10))?;
     s[9] = 0x82;
     case(rt, b"unsigned 85, eight 80, 82, the part ends")?;
-    show::u64_read(rt, read::unsigned(&s, 0, 10))?;
+    show::number_read(rt, read::unsigned(&s, 0, 10))?;
     s[9] = 0x81;
     case(rt, b"unsigned 85, eight 80, 81, six 80, then 00")?;
-    show::u64_read(rt, read::unsigned(&s, 0, 17))?;
+    show::number_read(rt, read::unsigned(&s, 0, 17))?;
     s[12] = 0x81;
     case(rt, b"unsigned, a bit in the thirteenth byte, the part ends")?;
-    show::u64_read(rt, read::unsigned(&s, 0, 13))?;
+    show::number_read(rt, read::unsigned(&s, 0, 13))?;
     case(
         rt,
         b"unsigned, a bit in the thirteenth byte, the part ends before it",
     )?;
-    show::u64_read(rt, read::unsigned(&s, 0, 12))
+    show::number_read(rt, read::unsigned(&s, 0, 12))
 }
 
 fn small(rt: &impl Print) -> io::Result<()> {
     case(rt, b"u16 7f")?;
-    show::u16_read(rt, read::u16(b"\x7f", 0, 1))?;
+    show::number_read(rt, read::u16(b"\x7f", 0, 1))?;
     case(rt, b"u16 80 40, 0x2000")?;
-    show::u16_read(rt, read::u16(b"\x80\x40", 0, 2))?;
+    show::number_read(rt, read::u16(b"\x80\x40", 0, 2))?;
     case(rt, b"u16 80 80 00, padded")?;
-    show::u16_read(rt, read::u16(b"\x80\x80\x00", 0, 3))?;
+    show::number_read(rt, read::u16(b"\x80\x80\x00", 0, 3))?;
     case(rt, b"u16 80 80 03")?;
-    show::u16_read(rt, read::u16(b"\x80\x80\x03", 0, 3))?;
+    show::number_read(rt, read::u16(b"\x80\x80\x03", 0, 3))?;
     case(rt, b"u16 80 80 04")?;
-    show::u16_read(rt, read::u16(b"\x80\x80\x04", 0, 3))?;
+    show::number_read(rt, read::u16(b"\x80\x80\x04", 0, 3))?;
     case(rt, b"u16 80 80 80 00")?;
-    show::u16_read(rt, read::u16(b"\x80\x80\x80\x00", 0, 4))?;
+    show::number_read(rt, read::u16(b"\x80\x80\x80\x00", 0, 4))?;
     case(rt, b"u16, an empty part")?;
-    show::u16_read(rt, read::u16(b"\x01", 1, 1))?;
+    show::number_read(rt, read::u16(b"\x01", 1, 1))?;
     case(rt, b"u16 80, the second byte missing")?;
-    show::u16_read(rt, read::u16(b"\x80", 0, 1))?;
+    show::number_read(rt, read::u16(b"\x80", 0, 1))?;
     case(rt, b"u16 ff ff, the third byte past the part")?;
-    show::u16_read(rt, read::u16(b"\xff\xff\x03", 0, 2))
+    show::number_read(rt, read::u16(b"\xff\xff\x03", 0, 2))
 }
 
 // The same as `unsigned_padded`, past the third byte of 16 bits.
 fn u16_padded(rt: &impl Print) -> io::Result<()> {
     let mut s = *b"\xff\xff\x83\x80\x80\x80\x80\x80\x80\x80\x80\x80\x80\x80\x80\x80\x00\xff";
     case(rt, b"u16 ff ff 83, thirteen 80, then 00")?;
-    show::u16_read(rt, read::u16(&s, 0, 18))?;
+    show::number_read(rt, read::u16(&s, 0, 18))?;
     case(rt, b"u16 ff ff 83, thirteen 80, the part ends")?;
-    show::u16_read(rt, read::u16(&s, 0, 16))?;
+    show::number_read(rt, read::u16(&s, 0, 16))?;
     case(rt, b"u16 ff ff 83, the part ends")?;
-    show::u16_read(rt, read::u16(&s, 0, 3))?;
+    show::number_read(rt, read::u16(&s, 0, 3))?;
     s[3] = 1;
     case(rt, b"u16 ff ff 83 01")?;
-    show::u16_read(rt, read::u16(&s, 0, 18))?;
+    show::number_read(rt, read::u16(&s, 0, 18))?;
     s[2] = 0x84;
     case(rt, b"u16 ff ff 84, the part ends")?;
-    show::u16_read(rt, read::u16(&s, 0, 3))
+    show::number_read(rt, read::u16(&s, 0, 3))
 }
 
 fn skips(rt: &impl Print, s: &[u8]) -> io::Result<()> {

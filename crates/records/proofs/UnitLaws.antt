@@ -4,7 +4,7 @@ use mathlib.Core.Path.{◌≡◌, refl, sym}
 use mathlib.Core.Bool.{Bool, true, false, false≢true, ◌&&◌}
 use mathlib.Core.Logic.{inl, inr}
 use mathlib.Core.List.{List}
-use mathlib.Core.Option.{none}
+use Rattle.std.specs.Prelude.{Option, None, Some}
 use Rattle.reader.specs.Errors.{longest}
 use Rattle.reader.specs.Numbers.{digits, spelled, read_number}
 use Rattle.reader.specs.Outcome.{Outcome, answered, refused, ◌>>=◌}
@@ -15,35 +15,32 @@ use Rattle.index.specs.Layout.{word_bytes, hash_bytes, sizes, places_from, place
 use Rattle.names.specs.declared.units.NameTypeUnit.{NameTypeUnit}
 use Rattle.names.specs.Units.{nth_word, unit_in, nth_compile_unit, local_type_unit, foreign_type_unit, nth_type_unit, default_compile_unit}
 use Rattle.attributes.specs.declared.attribute.FirstAttribute.{FirstAttribute}
-use Rattle.attributes.specs.declared.attribute.UnitNumber.{UnitNumber}
-use Rattle.attributes.specs.declared.units.EntryTypeUnit.{EntryTypeUnit}
-use Rattle.attributes.specs.Attributes.{no_attribute}
 use Rattle.attributes.specs.Meaning.{unit_number_in, unit_number, numbered_unit, numbered_type_unit, compile_unit_of, type_unit_of}
-use Rattle.attributes.specs.Sanity.{stands_as, stands}
+use Rattle.attributes.specs.Sanity.{stands}
 use Rattle.attributes.proofs.AttributeLaws.{SomeOrRefused, no_number, some_number}
 use Rattle.records.specs.Units.{type_shown, compile_shown, default_shown, entry_unit}
 use Rattle.records.specs.Sanity.{AsTypeUnit, TypeUnitDecides, OtherNotResolved, compile_unit_first, OneUnitAsBefore, UnitsComputed, UnitsSuppose}
 
 module _ (order : RunTimeEndian) (s : List ℕ) (i : NameIndex) where
   -- an attribute that the entry does not have names no unit
-  no_type_unit : (a : FirstAttribute) → stands a ≡ false → type_shown order s i a ≡ answered none
+  no_type_unit : (a : Option FirstAttribute) → stands a ≡ false → type_shown order s i a ≡ answered None
   unfolding type_shown type_unit_of numbered_type_unit
   no_type_unit a h = rw (no_number a h)
 
-  no_compile_unit : (a : FirstAttribute) → stands a ≡ false → compile_shown order s i a ≡ answered none
+  no_compile_unit : (a : Option FirstAttribute) → stands a ≡ false → compile_shown order s i a ≡ answered None
   unfolding compile_shown compile_unit_of numbered_unit
   no_compile_unit a h = rw (no_number a h)
 
   -- a type_unit attribute that it has names a unit, or is refused
-  some_type_unit : (a : FirstAttribute) → stands a ≡ true → SomeOrRefused EntryTypeUnit.Some (type_unit_of order s i a)
+  some_type_unit : (a : Option FirstAttribute) → stands a ≡ true → SomeOrRefused Some (type_unit_of order s i a)
   unfolding type_unit_of numbered_type_unit
   some_type_unit a h = by_number (some_number a h)
     where
-      by_unit : (o : Outcome NameTypeUnit) → SomeOrRefused EntryTypeUnit.Some (o >>= λ u. answered (EntryTypeUnit.Some u))
+      by_unit : (o : Outcome NameTypeUnit) → SomeOrRefused Some (o >>= λ u. answered (Some u))
       by_unit (answered u) = inl (u, refl)
       by_unit (refused n v) = inr (n, v, refl)
 
-      by_number : SomeOrRefused UnitNumber.Some (unit_number a) → SomeOrRefused EntryTypeUnit.Some (unit_number a >>= numbered_type_unit order s i)
+      by_number : SomeOrRefused Some (unit_number a) → SomeOrRefused Some (unit_number a >>= numbered_type_unit order s i)
       by_number (inl (n, e)) = rw e (by_unit (nth_type_unit order s i n))
       by_number (inr (n, v, e)) = rw e (inr (n, v, refl))
 
@@ -51,7 +48,7 @@ pub type_unit_decides : TypeUnitDecides
 unfolding entry_unit type_shown
 type_unit_decides order s i f h = by_unit (some_type_unit order s i f.type_unit h)
   where
-    by_unit : SomeOrRefused EntryTypeUnit.Some (type_unit_of order s i f.type_unit) → AsTypeUnit (type_unit_of order s i f.type_unit) (entry_unit order s i f)
+    by_unit : SomeOrRefused Some (type_unit_of order s i f.type_unit) → AsTypeUnit (type_unit_of order s i f.type_unit) (entry_unit order s i f)
     by_unit (inl (u, e)) = inl (u, e, rw e)
     by_unit (inr (n, v, e)) = inr (n, v, e, rw e)
 
@@ -59,7 +56,7 @@ pub other_not_resolved : OtherNotResolved
 unfolding entry_unit type_shown
 other_not_resolved order s i f g h same = by_unit (some_type_unit order s i f.type_unit h)
   where
-    by_unit : SomeOrRefused EntryTypeUnit.Some (type_unit_of order s i f.type_unit) → entry_unit order s i f ≡ entry_unit order s i g
+    by_unit : SomeOrRefused Some (type_unit_of order s i f.type_unit) → entry_unit order s i f ≡ entry_unit order s i g
     by_unit (inl (u, e)) = rw (← same, e)
     by_unit (inr (n, v, e)) = rw (← same, e)
 
@@ -74,9 +71,8 @@ one_unit_as_before order s i f = by_cases (stands f.type_unit) refl (stands f.co
     by_cases false t compile c h = rw (no_type_unit order s i f.type_unit t)
 
 pub units_computed : UnitsComputed
-unfolding entry_unit type_shown compile_shown default_shown type_unit_of compile_unit_of unit_number unit_number_in numbered_type_unit numbered_unit nth_type_unit local_type_unit foreign_type_unit nth_compile_unit default_compile_unit unit_in nth_word fitted parts place places_from sizes word_bytes hash_bytes longest read_number skipped spelled digits no_attribute
+unfolding entry_unit type_shown compile_shown default_shown type_unit_of compile_unit_of unit_number unit_number_in numbered_type_unit numbered_unit nth_type_unit local_type_unit foreign_type_unit nth_compile_unit default_compile_unit unit_in nth_word fitted parts place places_from sizes word_bytes hash_bytes longest read_number skipped spelled digits
 units_computed = refl
 
 pub units_suppose : UnitsSuppose
-unfolding stands_as no_attribute
 units_suppose = (refl, refl, refl, refl, refl, refl)

@@ -1,14 +1,14 @@
 -- The record of an entry: document 01, "The section query". It is where the entry stands, and what is shown of it.
-use Rattle.std.specs.Prelude.{ℕ, List}
+use Rattle.std.specs.Prelude.{ℕ, List, Option, Some, None}
 use Rattle.reader.specs.Outcome.{Outcome, answered, ◌>>=◌}
 use Rattle.reader.specs.declared.endianity.RunTimeEndian.{RunTimeEndian}
 use Rattle.index.specs.declared.layout.NameIndex.{NameIndex}
-use Rattle.attributes.specs.declared.attribute.DieOffset.{DieOffset}
 use Rattle.attributes.specs.declared.facts.Facts.{Facts}
 use Rattle.attributes.specs.Meaning.{die_offset_of}
 use Rattle.records.specs.declared.unit.ShownUnit.{ShownUnit}
 use Rattle.records.specs.declared.record.Record.{Record}
 use Rattle.records.specs.Units.{entry_unit}
+use Rattle.reader.specs.declared.common.UnitOffset.{UnitOffset}
 
 -- where an entry stands: the place of its index in the section, the number of the name, and its offset in the pool
 pub record Where : Type 0 where
@@ -20,7 +20,7 @@ pub record Where : Type 0 where
 pub record Shown : Type 0 where
   pub tag : ℕ
   pub unit : ShownUnit
-  pub die : DieOffset
+  pub die : Option UnitOffset
 
 -- its unit is found first, then its DIE offset; `f` has the first attribute of each name
 unfoldable pub shown : RunTimeEndian → List ℕ → NameIndex → ℕ → Facts → Outcome Shown
@@ -30,8 +30,8 @@ shown order s i tag f = do
   answered (record { tag = tag; unit = unit; die = die })
 
 -- an absent DIE offset is 0, with the flag 0
-abbrev pub with_die : Where → ℕ → ShownUnit → DieOffset → Record
-with_die w tag unit (DieOffset.Some offset) = record {
+abbrev pub with_die : Where → ℕ → ShownUnit → Option UnitOffset → Record
+with_die w tag unit (Some offset) = record {
   unit_value = unit.value;
   die_offset = offset;
   index_offset = w.index;
@@ -41,7 +41,7 @@ with_die w tag unit (DieOffset.Some offset) = record {
   unit_kind = unit.kind;
   has_die_offset = 1;
 }
-with_die w tag unit DieOffset.None = record {
+with_die w tag unit None = record {
   unit_value = unit.value;
   die_offset = record { 0 = 0 };
   index_offset = w.index;

@@ -1,25 +1,23 @@
 -- What a reader of the choice of a unit may want to be sure of: document 02, No. 5. The laws of proofs/UnitLaws.antt that have these types
 -- prove them.
-use Rattle.std.specs.Prelude.{ℕ, ◌≡◌, true, false, ◌&&◌, ◌⊎◌, List, [], ◌∷◌}
+use Rattle.std.specs.Prelude.{ℕ, ◌≡◌, true, false, ◌&&◌, ◌⊎◌, List, [], ◌∷◌, Option, Some, None}
 use Rattle.reader.specs.Outcome.{Outcome, answered, refused}
 use Rattle.reader.specs.declared.endianity.RunTimeEndian.{RunTimeEndian}
 use Rattle.reader.specs.declared.common.Format.{Format}
 use Rattle.index.specs.declared.layout.NameIndex.{NameIndex}
 use Rattle.names.specs.declared.units.NameTypeUnit.{NameTypeUnit}
-use Rattle.attributes.specs.declared.attribute.Kind.{Kind}
+use Rattle.forms.specs.declared.NameAttributeValue.{NameAttributeValue}
 use Rattle.attributes.specs.declared.attribute.FirstAttribute.{FirstAttribute}
 use Rattle.attributes.specs.declared.facts.Facts.{Facts}
-use Rattle.attributes.specs.declared.units.EntryTypeUnit.{EntryTypeUnit}
-use Rattle.attributes.specs.Attributes.{no_attribute}
 use Rattle.attributes.specs.Meaning.{type_unit_of}
 use Rattle.attributes.specs.Sanity.{stands}
 use Rattle.records.specs.declared.unit.ShownUnit.{ShownUnit}
 use Rattle.records.specs.Units.{unit_of, of_type_unit, type_shown, compile_shown, default_shown, ◌orNext◌, entry_unit}
 
 -- the fact `type_unit` answers a unit, and that one is shown; or the fact is refused, and so is the unit
-abbrev pub AsTypeUnit : Outcome EntryTypeUnit → Outcome ShownUnit → Type 0
+abbrev pub AsTypeUnit : Outcome (Option NameTypeUnit) → Outcome ShownUnit → Type 0
 AsTypeUnit fact unit =
-    ((u : NameTypeUnit) × (fact ≡ answered (EntryTypeUnit.Some u)) × (unit ≡ answered (of_type_unit u)))
+    ((u : NameTypeUnit) × (fact ≡ answered (Some u)) × (unit ≡ answered (of_type_unit u)))
     ⊎ ((n v : ℕ) × (fact ≡ refused n v) × (unit ≡ refused n v))
 
 -- Where a type_unit attribute stands, it decides, and nothing stands in for its unit. `StandsExactly` of `attributes` says that an attribute
@@ -71,29 +69,29 @@ lists_from begin compile = record {
 }
 
 -- a unit's number in the form udata, and two attributes of wrong forms: a number in the form ref_udata, and a flag
-abbrev pub numbered : ℕ → FirstAttribute
-numbered n = record { form = 0x0f; kind = Kind.Unsigned; number = n }
+abbrev pub numbered : ℕ → Option FirstAttribute
+numbered n = Some (record { form = 0x0f; value = NameAttributeValue.Unsigned n })
 
-abbrev pub referred : ℕ → FirstAttribute
-referred n = record { form = 0x15; kind = Kind.Offset; number = n }
+abbrev pub referred : ℕ → Option FirstAttribute
+referred n = Some (record { form = 0x15; value = NameAttributeValue.Offset n })
 
-abbrev pub flagged : FirstAttribute
-flagged = record { form = 0x0c; kind = Kind.Flag; number = 1 }
+abbrev pub flagged : Option FirstAttribute
+flagged = Some (record { form = 0x0c; value = NameAttributeValue.Flag true })
 
 -- the unit that is shown of an entry with this type_unit attribute and this compile_unit attribute
-abbrev pub unit_among : NameIndex → FirstAttribute → FirstAttribute → Outcome ShownUnit
+abbrev pub unit_among : NameIndex → Option FirstAttribute → Option FirstAttribute → Outcome ShownUnit
 unit_among i type compile = entry_unit RunTimeEndian.Little lists i (record {
   compile_unit = compile;
   type_unit = type;
-  die_offset = no_attribute;
-  parent = no_attribute;
-  type_hash = no_attribute;
+  die_offset = None;
+  parent = None;
+  type_hash = None;
 })
 
-abbrev pub of_two : FirstAttribute → FirstAttribute → Outcome ShownUnit
+abbrev pub of_two : Option FirstAttribute → Option FirstAttribute → Outcome ShownUnit
 of_two = unit_among (lists_from 0 2)
 
-abbrev pub of_one : FirstAttribute → FirstAttribute → Outcome ShownUnit
+abbrev pub of_one : Option FirstAttribute → Option FirstAttribute → Outcome ShownUnit
 of_one = unit_among (lists_from 4 1)
 
 -- With C 2. Both attributes: the local type unit; the foreign one; the same with a compile unit that is not there (two numbers), with one of more
@@ -114,12 +112,12 @@ UnitsComputed =
     ∷ of_two (numbered 0x100000000) (numbered 1)
     ∷ of_two (referred 0) (numbered 1)
     ∷ of_two flagged (numbered 1)
-    ∷ of_two (numbered 1) no_attribute
-    ∷ of_two no_attribute (numbered 1)
-    ∷ of_two no_attribute no_attribute
+    ∷ of_two (numbered 1) None
+    ∷ of_two None (numbered 1)
+    ∷ of_two None None
     ∷ of_one (numbered 1) (numbered 0)
-    ∷ of_one no_attribute (numbered 1)
-    ∷ of_one no_attribute no_attribute
+    ∷ of_one None (numbered 1)
+    ∷ of_one None None
     ∷ []
     ≡ answered (unit_of 2 0x300)
     ∷ answered (unit_of 3 0x0102030405060708)
@@ -147,6 +145,6 @@ UnitsSuppose =
     (stands (numbered 1) ≡ true)
     × (stands (referred 1) ≡ true)
     × (stands flagged ≡ true)
-    × (stands (numbered 1) && stands no_attribute ≡ false)
-    × (stands no_attribute && stands (numbered 1) ≡ false)
-    × (stands no_attribute && stands no_attribute ≡ false)
+    × (stands (numbered 1) && stands None ≡ false)
+    × (stands None && stands (numbered 1) ≡ false)
+    × (stands None && stands None ≡ false)

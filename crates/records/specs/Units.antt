@@ -1,19 +1,17 @@
 -- The unit that is shown of an entry: document 01, "The section query", with document 02, No. 5. `s` is the section, and `f` has the first
 -- attribute of each name.
 use Rattle.std.specs.Prelude.{ℕ, List}
-use Rattle.std.proofs.Math.Option.{Option, some, none}
+use Rattle.std.specs.Prelude.{Option, Some, None}
 use Rattle.reader.specs.Outcome.{Outcome, answered, refused, ◌>>=◌}
 use Rattle.reader.specs.declared.endianity.RunTimeEndian.{RunTimeEndian}
 use Rattle.index.specs.declared.layout.NameIndex.{NameIndex}
 use Rattle.names.specs.declared.units.NameTypeUnit.{NameTypeUnit}
-use Rattle.names.specs.declared.units.DefaultUnit.{DefaultUnit}
 use Rattle.names.specs.Units.{default_compile_unit}
 use Rattle.attributes.specs.declared.attribute.FirstAttribute.{FirstAttribute}
 use Rattle.attributes.specs.declared.facts.Facts.{Facts}
-use Rattle.attributes.specs.declared.units.EntryUnit.{EntryUnit}
-use Rattle.attributes.specs.declared.units.EntryTypeUnit.{EntryTypeUnit}
 use Rattle.attributes.specs.Meaning.{compile_unit_of, type_unit_of}
 use Rattle.records.specs.declared.unit.ShownUnit.{ShownUnit}
+use Rattle.reader.specs.declared.common.DebugInfoOffset.{DebugInfoOffset}
 
 -- a compile unit is kind 1, a local type unit 2, a foreign one, by its signature, 3; no unit is kind 0 with the value 0
 abbrev pub unit_of : ℕ → ℕ → ShownUnit
@@ -23,25 +21,25 @@ abbrev pub of_type_unit : NameTypeUnit → ShownUnit
 of_type_unit (NameTypeUnit.Local u) = unit_of 2 u.0
 of_type_unit (NameTypeUnit.Foreign t) = unit_of 3 t.0
 
-abbrev pub as_type_unit : EntryTypeUnit → Option ShownUnit
-as_type_unit (EntryTypeUnit.Some u) = some (of_type_unit u)
-as_type_unit EntryTypeUnit.None = none
+abbrev pub as_type_unit : Option NameTypeUnit → Option ShownUnit
+as_type_unit (Some u) = Some (of_type_unit u)
+as_type_unit None = None
 
-abbrev pub as_compile_unit : EntryUnit → Option ShownUnit
-as_compile_unit (EntryUnit.Some u) = some (unit_of 1 u.0)
-as_compile_unit EntryUnit.None = none
+abbrev pub as_compile_unit : Option DebugInfoOffset → Option ShownUnit
+as_compile_unit (Some u) = Some (unit_of 1 u.0)
+as_compile_unit None = None
 
-abbrev pub as_default_unit : DefaultUnit → ShownUnit
-as_default_unit (DefaultUnit.Some u) = unit_of 1 u.0
-as_default_unit DefaultUnit.None = unit_of 0 0
+abbrev pub as_default_unit : Option DebugInfoOffset → ShownUnit
+as_default_unit (Some u) = unit_of 1 u.0
+as_default_unit None = unit_of 0 0
 
 -- the unit that the type_unit attribute names, and the one that the compile_unit attribute names; none where the entry has no such attribute
-unfoldable pub type_shown : RunTimeEndian → List ℕ → NameIndex → FirstAttribute → Outcome (Option ShownUnit)
+unfoldable pub type_shown : RunTimeEndian → List ℕ → NameIndex → Option FirstAttribute → Outcome (Option ShownUnit)
 type_shown order s i a = do
   u ← type_unit_of order s i a
   answered (as_type_unit u)
 
-unfoldable pub compile_shown : RunTimeEndian → List ℕ → NameIndex → FirstAttribute → Outcome (Option ShownUnit)
+unfoldable pub compile_shown : RunTimeEndian → List ℕ → NameIndex → Option FirstAttribute → Outcome (Option ShownUnit)
 compile_shown order s i a = do
   u ← compile_unit_of order s i a
   answered (as_compile_unit u)
@@ -55,8 +53,8 @@ default_shown order s i = do
 infixr 5 ◌orNext◌
 -- this unit, or this refusal; only where there is no such unit, what comes next
 abbrev pub ◌orNext◌ : Outcome (Option ShownUnit) → Outcome ShownUnit → Outcome ShownUnit
-◌orNext◌ (answered (some u)) next = answered u
-◌orNext◌ (answered none) next = next
+◌orNext◌ (answered (Some u)) next = answered u
+◌orNext◌ (answered None) next = next
 ◌orNext◌ (refused n v) next = refused n v
 
 -- the unit: of the type_unit attribute, to whose unit the DIE belongs, else of the compile_unit attribute, else the default compile unit, else none

@@ -1,31 +1,24 @@
 // The unit that the compile_unit attribute of an entry names.
+// (order, section, index) stay parameters: with a struct that lends the section, contracts are no plainer (docs/DECISIONS.md).
 ghost use Rattle.std.specs.Prelude.{◌≡◌};
-ghost use Rattle.records.specs.Answers.{named_outcome};
+ghost use Rattle.reader.specs.Answers.{outcome};
 ghost use Rattle.records.specs.Units.{compile_shown};
 
-use crate::unit::{NamedUnit, ShownUnit};
-use attributes::{EntryUnit, EntryUnitRead, FirstAttribute, compile_unit};
+use crate::unit::ShownUnit;
+use attributes::{FirstAttribute, compile_unit};
 use index::NameIndex;
-use reader::RunTimeEndian;
+use reader::{Error, RunTimeEndian};
 
-// A compile unit has kind 1.
+// The compile unit, or none where the entry has no such attribute. (The type unit's in `type_unit.rt` differs in the call and the conversion: two lines.)
+#[tactic(auto, unfolding(crate::specs::Units::compile_shown))]
 pub fn shown(
     order: RunTimeEndian,
     section: &[u8],
     index: NameIndex,
-    first: FirstAttribute,
-) -> NamedUnit
-    ensures { named_outcome result ≡ compile_shown order section.now index first }
+    first: Option<FirstAttribute>,
+) -> Result<Option<ShownUnit>, Error>
+    ensures { outcome result ≡ compile_shown order section.now index first }
 {
-    let unit = match compile_unit(order, section, index, first) {
-        EntryUnitRead::Value(u) => u,
-        EntryUnitRead::Refused(e) => return NamedUnit::Refused(e),
-    };
-    match unit {
-        EntryUnit::Some(offset) => NamedUnit::Some(ShownUnit {
-            kind: 1,
-            value: offset.0 as u64,
-        }),
-        EntryUnit::None => NamedUnit::None,
-    }
+    let unit = compile_unit(order, section, index, first)?;
+    Ok(unit.map(|offset| ShownUnit::compile(offset)))
 }

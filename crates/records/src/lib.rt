@@ -11,5 +11,5 @@ pub mod choice; // the choice of the unit
 pub mod record; // the record of an entry
 
 pub use choice::entry_unit;
-pub use record::{Record, RecordRead, entry_record};
-pub use unit::{ShownUnit, ShownUnitRead};
+pub use record::{Record, entry_record};
+pub use unit::ShownUnit;

@@ -1,11 +1,11 @@
 // The record of an entry: where it stands, and what is shown of it.
+// (order, section, index) stay parameters: with a struct that lends the section, contracts are no plainer (docs/DECISIONS.md).
 ghost use Rattle.std.specs.Prelude.{◌≡◌};
-ghost use Rattle.records.specs.Answers.{record_outcome};
+ghost use Rattle.reader.specs.Answers.{outcome};
 ghost use Rattle.records.specs.Records.{Where, entry_record};
 
 use crate::choice::entry_unit;
-use crate::unit::ShownUnitRead;
-use attributes::{DieOffset, DieOffsetRead, Facts, die_offset};
+use attributes::{Facts, die_offset};
 use index::NameIndex;
 use reader::{Error, NameTableIndex, RunTimeEndian, UnitOffset};
 
@@ -26,13 +26,8 @@ pub struct Record {
     pub has_die_offset: u8,
 }
 
-#[derive(Clone, Copy)]
-pub enum RecordRead {
-    Value(Record),
-    Refused(Error),
-}
-
 // The record of an entry of an index, by its tag and the first attribute of each name: its unit, then its DIE offset.
+#[tactic(auto, unfolding(crate::specs::Records::entry_record, crate::specs::Records::shown))]
 pub fn entry_record(
     order: RunTimeEndian,
     section: &[u8],
@@ -42,38 +37,22 @@ pub fn entry_record(
     entry_offset: u32,
     tag: u16,
     facts: Facts,
-) -> RecordRead
-    ensures { record_outcome result ≡ entry_record order section.now index (record { index = index_offset; name = name.0; entry = entry_offset }) tag facts }
+) -> Result<Record, Error>
+    ensures { outcome result ≡ entry_record order section.now index (record { index = index_offset; name = name.0; entry = entry_offset }) tag facts }
 {
-    let first = facts.die_offset;
-    let unit = match entry_unit(order, section, index, facts) {
-        ShownUnitRead::Value(u) => u,
-        ShownUnitRead::Refused(e) => return RecordRead::Refused(e),
+    let unit = entry_unit(order, section, index, facts)?;
+    let (die_offset, has_die_offset) = match die_offset(facts.die_offset)? {
+        Some(offset) => (offset, 1),
+        None => (UnitOffset(0), 0),
     };
-    let die = match die_offset(first) {
-        DieOffsetRead::Value(d) => d,
-        DieOffsetRead::Refused(e) => return RecordRead::Refused(e),
-    };
-    match die {
-        DieOffset::Some(offset) => RecordRead::Value(Record {
-            unit_value: unit.value,
-            die_offset: offset,
-            index_offset: index_offset,
-            entry_offset: entry_offset,
-            name: name,
-            tag: tag,
-            unit_kind: unit.kind,
-            has_die_offset: 1,
-        }),
-        DieOffset::None => RecordRead::Value(Record {
-            unit_value: unit.value,
-            die_offset: UnitOffset(0),
-            index_offset: index_offset,
-            entry_offset: entry_offset,
-            name: name,
-            tag: tag,
-            unit_kind: unit.kind,
-            has_die_offset: 0,
-        }),
-    }
+    Ok(Record {
+        unit_value: unit.value,
+        die_offset,
+        index_offset,
+        entry_offset,
+        name,
+        tag,
+        unit_kind: unit.kind,
+        has_die_offset,
+    })
 }

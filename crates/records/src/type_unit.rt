@@ -1,39 +1,24 @@
 // The unit that the type_unit attribute of an entry names.
+// (order, section, index) stay parameters: with a struct that lends the section, contracts are no plainer (docs/DECISIONS.md).
 ghost use Rattle.std.specs.Prelude.{◌≡◌};
-ghost use Rattle.records.specs.Answers.{named_outcome};
+ghost use Rattle.reader.specs.Answers.{outcome};
 ghost use Rattle.records.specs.Units.{type_shown};
 
-use crate::unit::{NamedUnit, ShownUnit};
-use attributes::{EntryTypeUnit, EntryTypeUnitRead, FirstAttribute, type_unit};
+use crate::unit::ShownUnit;
+use attributes::{FirstAttribute, type_unit};
 use index::NameIndex;
-use names::NameTypeUnit;
-use reader::RunTimeEndian;
+use reader::{Error, RunTimeEndian};
 
-// A local type unit has kind 2, a foreign one kind 3.
+// The type unit, or none where the entry has no such attribute.
+#[tactic(auto, unfolding(crate::specs::Units::type_shown))]
 pub fn shown(
     order: RunTimeEndian,
     section: &[u8],
     index: NameIndex,
-    first: FirstAttribute,
-) -> NamedUnit
-    ensures { named_outcome result ≡ type_shown order section.now index first }
+    first: Option<FirstAttribute>,
+) -> Result<Option<ShownUnit>, Error>
+    ensures { outcome result ≡ type_shown order section.now index first }
 {
-    let named = match type_unit(order, section, index, first) {
-        EntryTypeUnitRead::Value(u) => u,
-        EntryTypeUnitRead::Refused(e) => return NamedUnit::Refused(e),
-    };
-    let unit = match named {
-        EntryTypeUnit::Some(u) => u,
-        EntryTypeUnit::None => return NamedUnit::None,
-    };
-    match unit {
-        NameTypeUnit::Local(offset) => NamedUnit::Some(ShownUnit {
-            kind: 2,
-            value: offset.0 as u64,
-        }),
-        NameTypeUnit::Foreign(signature) => NamedUnit::Some(ShownUnit {
-            kind: 3,
-            value: signature.0,
-        }),
-    }
+    let unit = type_unit(order, section, index, first)?;
+    Ok(unit.map(|named| ShownUnit::from(named)))
 }

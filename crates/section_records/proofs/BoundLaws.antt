@@ -4,7 +4,7 @@ use native.Mathlib.Nat.{mul-add, add-mul, mul_comm, mul_assoc, mul-le-mul}
 use mathlib.Core.Path.{◌≡◌, refl, ap}
 use native.Mathlib.Omega.{arith}
 use mathlib.Core.List.{List}
-use mathlib.Core.Option.{some, none}
+use Rattle.std.specs.Prelude.{Some, None}
 use lib.ListN.{length}
 use Rattle.reader.specs.Outcome.{Outcome, answered, refused, ◌>>=◌, refuse_if}
 use Rattle.reader.specs.Errors.{longest}
@@ -126,7 +126,7 @@ module _ (order : RunTimeEndian) (s strs : List ℕ) (hash : ℕ) (text : List �
   headers_decided at more = rw (headers_step order s at) (by_place (leb (length s) at) (header order s at) refl)
     where
       by_place : (t : Bool) (o : Outcome NameIndexHeader) → header order s at ≡ o
-          → 32 * items (header_records order s strs hash text (listed (cond t (answered none) (o >>= λ h. answered (some h))) λ h. headers_from order s h.content.end)) ≤ (length s - at) * (length s - at)
+          → 32 * items (header_records order s strs hash text (listed (cond t (answered None) (o >>= λ h. answered (Some h))) λ h. headers_from order s h.content.end)) ≤ (length s - at) * (length s - at)
       by_place true o read = omega arith
       by_place false (answered h) read = opened_square at h read (headers_left order s strs hash text h.content.end) (more h read)
       by_place false (refused n v) read = omega arith

@@ -1,17 +1,17 @@
 -- Laws of the walk over the headers of a section.
-use Prim.Native.Nat.{ℕ, ◌≤◌, ◌<◌}
+use Prim.Native.Nat.{ℕ, ◌^◌, ◌≤◌, ◌<◌}
 use mathlib.Core.Path.{◌≡◌, refl, sym, ◌∙◌}
 use mathlib.Core.Bool.{Bool, true, false, cond}
 use mathlib.Core.List.{List}
-use mathlib.Core.Option.{some, none}
+use Rattle.std.specs.Prelude.{Some, None}
 use native.Mathlib.Omega.{arith}
 use lib.ListN.{length}
 use lib.Dec.{leb}
-use borrow.Author.Tests.{le-ltb}
+use borrow.Author.Tests.{le-ltb, le-leb, lt-leb}
 use Rattle.reader.specs.Outcome.{Outcome, answered, refused, ◌>>=◌}
 use Rattle.reader.specs.Errors.{longest}
 use Rattle.reader.specs.Lists.{numbers_from}
-use Rattle.reader.specs.Listing.{Listing, ended, listed, or_broken, followed_by}
+use Rattle.reader.specs.Listing.{Listing, ended, broken, listed, or_broken, followed_by}
 use Rattle.reader.specs.declared.endianity.RunTimeEndian.{RunTimeEndian}
 use Rattle.headers.specs.declared.header.HeaderCut.{HeaderCut}
 use Rattle.headers.specs.declared.header.NameIndexHeader.{NameIndexHeader}
@@ -20,7 +20,9 @@ use Rattle.headers.specs.Headers.{header_at, headers_from}
 use Rattle.headers.proofs.HeaderLaws.{cut-forward, cut-offset, body_answered, headers_step}
 use Rattle.index.specs.Layout.{no_index, parts, place, places_from, sizes, word_bytes, hash_bytes, fitted}
 use Rattle.index.specs.Open.{name_index}
+use Rattle.index.specs.declared.layout.NameIndex.{NameIndex}
 use Rattle.index.proofs.LayoutLaws.{fitted-fits}
+use Rattle.index.proofs.OpenLaws.{opened_fits}
 use Rattle.hashes.specs.Table.{names_from}
 use Rattle.records.specs.declared.record.Record.{Record}
 use Rattle.entries.proofs.EntryLaws.{pool_end}
@@ -29,7 +31,8 @@ use Rattle.index_query.specs.Candidates.{candidates_from, candidates_at}
 use Rattle.index_query.specs.Matching.{matching}
 use Rattle.index_query.specs.Records.{matches_at}
 use Rattle.index_query.specs.Records.{all_series, index_records, records_at, index_left}
-use Rattle.index_query.proofs.RecordLaws.{records-ended, left-fits}
+use Rattle.index_query.proofs.RecordLaws.{places_small, records-ended, left_fits}
+use Rattle.section_records.specs.declared.QueryIter.{QueryIter}
 use Rattle.section_records.specs.Records.{header_records, headers_left, section_records, query_left, first_record}
 
 -- what a header that was read says: its offset is its place, and its index ends past it, inside the section
@@ -40,6 +43,14 @@ header_read order s at c h split body =
     let (offset, ends, first, within) = body_answered order s c h (sym body) in
     (offset ∙ cut-offset order s at c (sym split), omega arith, omega arith)
 
+-- and where its index opens, the place has 32 bits
+pub offset_small : (order : RunTimeEndian) (s : List ℕ) (at : ℕ) (c : HeaderCut) (h : NameIndexHeader) (i : NameIndex) → answered c ≡ header_cut order s at → answered h ≡ header_body order s c
+    → answered i ≡ name_index s h → h.offset.0 < 2 ^ 32
+offset_small order s at c h i split body opened =
+    let (here, past, inside) = header_read order s at c h split body in
+    let (short, fits, same) = opened_fits s h i (sym opened) in
+    omega (arith, places_small)
+
 -- the index that is open before the first header has no records
 no_index_fits : (s : List ℕ) → length s ≤ longest → fitted s no_index ≡ answered (parts no_index)
 unfolding no_index parts place places_from sizes word_bytes hash_bytes
@@ -48,7 +59,7 @@ no_index_fits s short = fitted-fits s no_index short (omega arith, omega arith)
 no_index_left : (order : RunTimeEndian) (s strs : List ℕ) (hash : ℕ) (text : List ℕ) (c : IndexIter) → c.at ≡ 0 → c.next ≡ 0 → length s ≤ longest → index_left order s strs hash text 0 no_index c ≡ ended
 unfolding no_index records_at matches_at candidates_at candidates_from names_from numbers_from all_series matching followed_by
 no_index_left order s strs hash text c at next short =
-    left-fits order s strs hash text 0 no_index (parts no_index) c (sym (no_index_fits s short))
+    left_fits order s strs hash text 0 no_index (parts no_index) c (sym (no_index_fits s short))
     ∙ rw (at ∙ sym (pool_end no_index), records-ended order s 0 no_index (parts no_index) c.name.0, next, no_index_fits s short)
 
 module _ (order : RunTimeEndian) (s strs : List ℕ) (hash : ℕ) (text : List ℕ) where
@@ -62,16 +73,33 @@ module _ (order : RunTimeEndian) (s strs : List ℕ) (hash : ℕ) (text : List �
   headers_left_step at = rw (headers_step order s at) (tested (leb (length s) at) (header_cut order s at))
     where
       by_body : (o : Outcome NameIndexHeader)
-          → header_records order s strs hash text (listed (o >>= λ h. answered (some h)) λ h. headers_from order s h.content.end) ≡ or_broken o opened_then
+          → header_records order s strs hash text (listed (o >>= λ h. answered (Some h)) λ h. headers_from order s h.content.end) ≡ or_broken o opened_then
       by_body (answered h) = refl
       by_body (refused n v) = refl
 
       tested : (t : Bool) (o : Outcome HeaderCut)
-          → header_records order s strs hash text (listed (cond t (answered none) ((o >>= λ c. header_body order s c) >>= λ h. answered (some h))) λ h. headers_from order s h.content.end)
+          → header_records order s strs hash text (listed (cond t (answered None) ((o >>= λ c. header_body order s c) >>= λ h. answered (Some h))) λ h. headers_from order s h.content.end)
           ≡ cond t ended (or_broken o λ c. or_broken (header_body order s c) opened_then)
       tested true o = refl
       tested false (answered c) = by_body (header_body order s c)
       tested false (refused n v) = refl
+
+  -- at the section's end there are none; else they are those of the header that is read there, and of those after it
+  pub headers_ended : (at : ℕ) → length s ≤ at → headers_left order s strs hash text at ≡ ended
+  headers_ended at past = rw (headers_left_step at, le-leb (length s) at past)
+
+  pub headers_opened : (at : ℕ) → at < length s → headers_left order s strs hash text at ≡ or_broken (header_cut order s at) λ c. or_broken (header_body order s c) opened_then
+  headers_opened at inside = rw (headers_left_step at, lt-leb (length s) at inside)
+
+  -- a list that is broken off is not gone on with
+  pub none_opened : (n v : ℕ) (rest : Listing Record) → followed_by (broken n v) rest ≡ broken n v
+  unfolding followed_by
+  none_opened n v rest = refl
+
+  -- what a cursor has left
+  pub cursor_left : (c : QueryIter) → query_left order s strs hash text c ≡ followed_by (index_left order s strs hash text c.offset c.index c.records) (headers_left order s strs hash text c.at)
+  unfolding query_left
+  cursor_left c = refl
 
   -- before the first header the empty index has no records
   pub first-left : length s ≤ longest → query_left order s strs hash text first_record ≡ headers_left order s strs hash text 0

@@ -1,14 +1,16 @@
 // The records of a section, one after another (document 01, "The section query"): those of its indexes in order, each index finished before
 // the next header. The step over them decides everything that a query answers.
+// (order, section, strings, hash, name) stay parameters: with a struct that lends slices, contracts are no plainer (docs/DECISIONS.md).
 #![tactic(auto)]
 
 ghost use Rattle.std.specs.Prelude.{◌≡◌, List, ℕ};
 ghost use Rattle.section_records.specs.Records.{headers_left, query_left, first_record};
-ghost use Rattle.section_records.specs.Answers.{next_left, next_past, step_left};
+ghost use Rattle.reader.specs.Listing.{item, left_by};
+ghost use Rattle.section_records.specs.Answers.{next_past};
 
-use headers::{HeaderCutRead, HeaderRead, cut_header, parse_body};
-use index::{IndexRead, NameIndex, no_index};
-use index_query::{IndexIter, IndexStep, StartRead, start};
+use headers::{cut_header, parse_body};
+use index::NameIndex;
+use index_query::{IndexIter, start};
 use reader::{Error, NameTableIndex, RunTimeEndian};
 use records::Record;
 
@@ -22,31 +24,16 @@ pub struct QueryIter {
     pub records: IndexIter,
 }
 
-// What a step answers: a record, with the cursor after it; the end; or a refusal.
-#[derive(Clone, Copy)]
-pub enum QueryStep {
-    Record(Record, QueryIter),
-    End,
-    Refused(Error),
-}
-
-// The next index: a cursor before its first record.
-#[derive(Clone, Copy)]
-pub enum NextIndex {
-    Open(QueryIter),
-    End,
-    Refused(Error),
-}
-
 // The cursor before the first header: no index is open.
+// (A name that says what comes first, in place of a `Default`.)
+#[tactic(auto, unfolding(crate::specs::Records::first_record, index::specs::Layout::no_index))]
 pub fn first_record() -> QueryIter
     ensures { result ≡ first_record }
 {
-    let index = no_index();
     QueryIter {
         at: 0,
         offset: 0,
-        index: index,
+        index: NameIndex::default(),
         records: IndexIter {
             name: NameTableIndex(0),
             at: 0,
@@ -55,75 +42,57 @@ pub fn first_record() -> QueryIter
     }
 }
 
-// Opens the index whose header begins at a place, and looks for its candidates.
-fn open_next(order: RunTimeEndian, section: &[u8], hash: u32, at: usize) -> NextIndex
-    ensures by_index { (strings name : List ℕ) → next_left order section.now strings hash name result ≡ headers_left order section.now strings hash name at }
+// Opens the index whose header begins at a place, and looks for its candidates: a cursor before its first record; none at the section's end.
+#[tactic(auto, using(crate::proofs::WalkLaws::headers_ended, crate::proofs::WalkLaws::headers_opened, crate::proofs::WalkLaws::none_opened, crate::proofs::WalkLaws::cursor_left, crate::proofs::WalkLaws::header_read, crate::proofs::WalkLaws::offset_small))]
+fn open_next(
+    order: RunTimeEndian,
+    section: &[u8],
+    hash: u32,
+    at: usize,
+) -> Result<Option<QueryIter>, Error>
+    ensures by_index { (strings name : List ℕ) → left_by result (query_left order section.now strings hash name) ≡ headers_left order section.now strings hash name at }
     ensures onward { next_past section.now at result }
 {
     if section.len() <= at {
-        return NextIndex::End;
+        return Ok(None);
     }
-    let cut = match cut_header(order, section, at) {
-        HeaderCutRead::Value(c) => c,
-        HeaderCutRead::Refused(e) => return NextIndex::Refused(e),
-    };
-    let header = match parse_body(order, section, cut) {
-        HeaderRead::Value(h) => h,
-        HeaderRead::Refused(e) => return NextIndex::Refused(e),
-    };
-    let offset = header.offset;
-    let content = header.content;
-    let index = match NameIndex::new(section, header) {
-        IndexRead::Value(i) => i,
-        IndexRead::Refused(e) => return NextIndex::Refused(e),
-    };
-    match start(order, section, index, hash) {
-        StartRead::Value(c) => NextIndex::Open(QueryIter {
-            at: content.end,
-            offset: offset.0 as u32,
-            index: index,
-            records: c,
-        }),
-        StartRead::Refused(e) => NextIndex::Refused(e),
-    }
+    let cut = cut_header(order, section, at)?;
+    let header = parse_body(order, section, cut)?;
+    let index = NameIndex::new(section, header)?;
+    let records = start(order, section, index, hash)?;
+    Ok(Some(QueryIter {
+        at: header.content.end,
+        offset: header.offset.0 as u32,
+        index,
+        records,
+    }))
 }
 
 impl QueryIter {
-    // The next record of the section.
+    // The next record of the section. After an end or a refusal the cursor is worth nothing.
+    #[tactic(auto, unfolding(reader::specs::Listing::followed_by, crate::specs::Records::query_left))]
     pub fn next(
-        self,
+        &mut self,
         order: RunTimeEndian,
         section: &[u8],
         strings: &[u8],
         hash: u32,
         name: &[u8],
-    ) -> QueryStep
-        ensures { step_left order section.now strings.now hash name.now result ≡ query_left order section.now strings.now hash name.now self }
+    ) -> Result<Option<Record>, Error>
+        ensures { left_by result (λ r. item r (query_left order section.now strings.now hash name.now self.new)) ≡ query_left order section.now strings.now hash name.now self.old }
     {
-        let mut c = self;
         loop {
-            let index = c.index;
-            let records = c.records;
-            match records.next(order, section, strings, hash, name, c.offset, index) {
-                IndexStep::Record(r, after) => {
-                    return QueryStep::Record(
-                        r,
-                        QueryIter {
-                            at: c.at,
-                            offset: c.offset,
-                            index: index,
-                            records: after,
-                        },
-                    )
-                }
-                IndexStep::End => (),
-                IndexStep::Refused(e) => return QueryStep::Refused(e),
+            let index = self.index;
+            let record = self
+                .records
+                .next(order, section, strings, hash, name, self.offset, index)?;
+            if let Some(found) = record {
+                return Ok(Some(found));
             }
-            match open_next(order, section, hash, c.at) {
-                NextIndex::Open(d) => c = d,
-                NextIndex::End => return QueryStep::End,
-                NextIndex::Refused(e) => return QueryStep::Refused(e),
-            }
+            let Some(next) = open_next(order, section, hash, self.at)? else {
+                return Ok(None);
+            };
+            *self = next;
         }
     }
 }

@@ -1,17 +1,16 @@
 -- Outcomes as answers of more than one number: headers, strings, the steps over buckets and hashes, and the table check.
 use Rattle.std.specs.Prelude.{ℕ}
-use Rattle.std.proofs.Math.Option.{Option, some, none}
+use Rattle.std.specs.Prelude.{Option, Some, None}
 use Rattle.reader.specs.Outcome.{Outcome, answered, refused}
 use Rattle.reader.specs.Steps.{Step}
 use Rattle.reader.specs.declared.common.NameTableIndex.{NameTableIndex}
-use Rattle.headers.specs.declared.header.Augmentation.{Augmentation}
 use Rattle.headers.specs.declared.header.NameIndexHeader.{NameIndexHeader}
 use Rattle.headers.specs.declared.headers.NameIndexHeaderIter.{NameIndexHeaderIter}
-use Rattle.strings.specs.Strings.{Text}
+use Rattle.strings.specs.declared.Str.{Str}
 use Rattle.hashes.specs.declared.bucket.NameBucketIter.{NameBucketIter}
 use Rattle.hashes.specs.declared.bucket.BucketName.{BucketName}
 use Rattle.hashes.specs.declared.hash.NameHashIter.{NameHashIter}
-use Rattle.tables.specs.Check.{Checked, no_table, complete, incomplete}
+use Rattle.tables.specs.declared.TableCheck.{TableCheck}
 use Rattle.step_answers.specs.declared.HeaderAnswer.{HeaderAnswer}
 use Rattle.step_answers.specs.declared.HeaderFacts.{HeaderFacts}
 use Rattle.step_answers.specs.declared.StringAnswer.{StringAnswer}
@@ -19,36 +18,37 @@ use Rattle.step_answers.specs.declared.BucketAnswer.{BucketAnswer}
 use Rattle.step_answers.specs.declared.HashAnswer.{HashAnswer}
 use Rattle.step_answers.specs.declared.TableAnswer.{TableAnswer}
 use Rattle.handles.specs.Handles.{handle_of, cursor_from, no_handle, no_cursor}
+use Rattle.headers.specs.declared.header.AugmentationString.{AugmentationString}
 
 -- a header step: the header's place, and the handle of the index that it describes
 abbrev header_answer_at : ℕ → Outcome (Option NameIndexHeader) → HeaderAnswer
-header_answer_at next (answered (some h)) = record { status = 0; kind = 1; value = h.offset.0; next = next; index = handle_of h }
-header_answer_at next (answered none) = record { status = 0; kind = 0; value = 0; next = next; index = no_handle }
+header_answer_at next (answered (Some h)) = record { status = 0; kind = 1; value = h.offset.0; next = next; index = handle_of h }
+header_answer_at next (answered None) = record { status = 0; kind = 0; value = 0; next = next; index = no_handle }
 header_answer_at next (refused n v) = record { status = n; kind = 0; value = v; next = next; index = no_handle }
 
 abbrev pub header_answer : Step NameIndexHeader NameIndexHeaderIter → HeaderAnswer
 header_answer t = header_answer_at t.cursor.at t.answer
 
 -- what else a header says: its length, its augmentation string and its version
-abbrev facts_with : NameIndexHeader → Augmentation → HeaderFacts
-facts_with h Augmentation.None = record { status = 0; kind = 1; value = h.length; augmentation = 0; augmentation_len = 0; version = h.version }
-facts_with h (Augmentation.Some a) =
+abbrev facts_with : NameIndexHeader → Option AugmentationString → HeaderFacts
+facts_with h None = record { status = 0; kind = 1; value = h.length; augmentation = 0; augmentation_len = 0; version = h.version }
+facts_with h (Some a) =
     record { status = 0; kind = 1; value = h.length; augmentation = a.place; augmentation_len = a.len; version = h.version }
 
 abbrev pub header_facts : Outcome (Option NameIndexHeader) → HeaderFacts
-header_facts (answered (some h)) = facts_with h h.augmentation_string
-header_facts (answered none) = record { status = 0; kind = 0; value = 0; augmentation = 0; augmentation_len = 0; version = 0 }
+header_facts (answered (Some h)) = facts_with h h.augmentation_string
+header_facts (answered None) = record { status = 0; kind = 0; value = 0; augmentation = 0; augmentation_len = 0; version = 0 }
 header_facts (refused n v) = record { status = n; kind = 0; value = v; augmentation = 0; augmentation_len = 0; version = 0 }
 
 -- a string: where it begins, and its length
-abbrev pub string_answer : Outcome Text → StringAnswer
+abbrev pub string_answer : Outcome Str → StringAnswer
 string_answer (answered t) = record { status = 0; kind = 1; value = t.start; len = t.len }
 string_answer (refused n v) = record { status = n; kind = 0; value = v; len = 0 }
 
 -- a bucket step: the name's number and its stored hash, and the number of the name to examine next
 abbrev bucket_answer_at : ℕ → Outcome (Option BucketName) → BucketAnswer
-bucket_answer_at next (answered (some n)) = record { status = 0; kind = 1; value = n.name.0; hash = n.hash; next = next }
-bucket_answer_at next (answered none) = record { status = 0; kind = 0; value = 0; hash = 0; next = next }
+bucket_answer_at next (answered (Some n)) = record { status = 0; kind = 1; value = n.name.0; hash = n.hash; next = next }
+bucket_answer_at next (answered None) = record { status = 0; kind = 0; value = 0; hash = 0; next = next }
 bucket_answer_at next (refused n v) = record { status = n; kind = 0; value = v; hash = 0; next = next }
 
 abbrev pub bucket_step_answer : Step BucketName NameBucketIter → BucketAnswer
@@ -60,8 +60,8 @@ hash_answer (answered c) = record { status = 0; kind = 1; value = 0; next = curs
 hash_answer (refused n v) = record { status = n; kind = 0; value = v; next = no_cursor }
 
 abbrev hash_answer_at : NameHashIter → Outcome (Option NameTableIndex) → HashAnswer
-hash_answer_at next (answered (some name)) = record { status = 0; kind = 1; value = name.0; next = cursor_from next }
-hash_answer_at next (answered none) = record { status = 0; kind = 0; value = 0; next = cursor_from next }
+hash_answer_at next (answered (Some name)) = record { status = 0; kind = 1; value = name.0; next = cursor_from next }
+hash_answer_at next (answered None) = record { status = 0; kind = 0; value = 0; next = cursor_from next }
 hash_answer_at next (refused n v) = record { status = n; kind = 0; value = v; next = cursor_from next }
 
 abbrev pub hash_step_answer : Step NameTableIndex NameHashIter → HashAnswer
@@ -70,8 +70,8 @@ hash_step_answer t = hash_answer_at t.cursor t.answer
 -- the table check. With status 0, kind 0 is no hash table, 1 is complete, and 2 is incomplete: `value` is how many names are missed, `name` the
 -- smallest number among them, and `hash` the hash that is stored for that name. A refusal has its number as status, its value, and kind 0. All
 -- else is 0.
-abbrev pub table_answer : Outcome Checked → TableAnswer
-table_answer (answered no_table) = record { status = 0; kind = 0; value = 0; name = 0; hash = 0 }
-table_answer (answered complete) = record { status = 0; kind = 1; value = 0; name = 0; hash = 0 }
-table_answer (answered (incomplete lost)) = record { status = 0; kind = 2; value = lost.missed; name = lost.name.0; hash = lost.hash }
+abbrev pub table_answer : Outcome TableCheck → TableAnswer
+table_answer (answered TableCheck.NoTable) = record { status = 0; kind = 0; value = 0; name = 0; hash = 0 }
+table_answer (answered TableCheck.Complete) = record { status = 0; kind = 1; value = 0; name = 0; hash = 0 }
+table_answer (answered (TableCheck.Incomplete lost)) = record { status = 0; kind = 2; value = lost.missed; name = lost.name.0; hash = lost.hash }
 table_answer (refused n v) = record { status = n; kind = 0; value = v; name = 0; hash = 0 }

@@ -1,24 +1,24 @@
 // Answers of more than one number, as they are handed over to C, C++ and Rust: headers, strings, the steps over buckets and hashes, each with
 // the cursor after it, and the table check.
+//
+// Status and kind are plain numbers, since the structs cross to C.
 #![tactic(auto)]
 
 ghost use Rattle.std.specs.Prelude.{◌≡◌};
-ghost use Rattle.headers.specs.Answers.{header_step_of};
-ghost use Rattle.strings.specs.Answers.{str_outcome};
-ghost use Rattle.hashes.specs.Answers.{bucket_step_of, hash_outcome, hash_step_of};
-ghost use Rattle.tables.specs.Check.{check_outcome};
-ghost use Rattle.handles.specs.Handles.{no_handle, no_cursor};
+ghost use Rattle.reader.specs.Answers.{outcome};
+ghost use Rattle.reader.specs.Steps.{step_of};
 ghost use Rattle.step_answers.specs.Steps.{header_answer, header_facts, string_answer, bucket_step_answer, hash_answer, hash_step_answer, table_answer};
 
-use handles::{HashCursor, IndexHandle, cursor_of, handle_of};
-use hashes::{HashRead, NameBucketStep, NameHashStep};
-use headers::{Augmentation, HeaderStep};
-use strings::StrRead;
+use handles::{HashCursor, IndexHandle};
+use hashes::{BucketName, NameBucketIter, NameHashIter};
+use headers::{NameIndexHeader, NameIndexHeaderIter};
+use reader::{Error, NameTableIndex, Step};
+use strings::Str;
 use tables::TableCheck;
 
 // A step over the headers: kind 0 is the end; 1 is a header, at the place `value`, with the index that it describes.
 #[repr(C)]
-#[derive(Clone, Copy)]
+#[derive(Clone, Copy, Default)]
 pub struct HeaderAnswer {
     pub status: u32,
     pub kind: u32,
@@ -29,7 +29,7 @@ pub struct HeaderAnswer {
 
 // What else a header says: its length is `value`; without an augmentation string its place and length are 0.
 #[repr(C)]
-#[derive(Clone, Copy)]
+#[derive(Clone, Copy, Default)]
 pub struct HeaderFacts {
     pub status: u32,
     pub kind: u32,
@@ -41,7 +41,7 @@ pub struct HeaderFacts {
 
 // Where a string stands: it begins at `value`.
 #[repr(C)]
-#[derive(Clone, Copy)]
+#[derive(Clone, Copy, Default)]
 pub struct StringAnswer {
     pub status: u32,
     pub kind: u32,
@@ -51,7 +51,7 @@ pub struct StringAnswer {
 
 // A step over the names of a bucket: kind 0 is the end; 1 is the name of number `value`, with the hash that is stored for it.
 #[repr(C)]
-#[derive(Clone, Copy)]
+#[derive(Clone, Copy, Default)]
 pub struct BucketAnswer {
     pub status: u32,
     pub kind: u32,
@@ -62,7 +62,7 @@ pub struct BucketAnswer {
 
 // A lookup by hash, or a step of it: kind 0 is the end; 1 is the name of number `value`, and of the lookup itself 0.
 #[repr(C)]
-#[derive(Clone, Copy)]
+#[derive(Clone, Copy, Default)]
 pub struct HashAnswer {
     pub status: u32,
     pub kind: u32,
@@ -73,7 +73,7 @@ pub struct HashAnswer {
 // What the table check says: kind 0 is no table; 1 is complete; 2 is incomplete, with the number of missed names in `value`, the smallest of
 // their numbers, and the hash that is stored for that name.
 #[repr(C)]
-#[derive(Clone, Copy)]
+#[derive(Clone, Copy, Default)]
 pub struct TableAnswer {
     pub status: u32,
     pub kind: u32,
@@ -82,254 +82,172 @@ pub struct TableAnswer {
     pub hash: u32,
 }
 
-// The handle of no index, and the cursor of no lookup.
-fn no_handle() -> IndexHandle
-    ensures { result ≡ no_handle }
+// A header step, with the cursor after it. (Each answer below fills a struct of its own where it refuses, since C knows one layout a call.)
+#[tactic(auto, unfolding(handles::specs::Handles::no_handle))]
+pub fn header_answer(step: Step<NameIndexHeader, NameIndexHeaderIter>) -> HeaderAnswer
+    ensures { result ≡ header_answer (step_of step.answer step.cursor) }
 {
-    IndexHandle {
-        begin: 0,
-        end: 0,
-        format: 0,
-        compile_unit_count: 0,
-        local_type_unit_count: 0,
-        foreign_type_unit_count: 0,
-        bucket_count: 0,
-        name_count: 0,
-        abbrev_table_size: 0,
-    }
-}
-
-fn no_cursor() -> HashCursor
-    ensures { result ≡ no_cursor }
-{
-    HashCursor {
-        hash: 0,
-        has_bucket: 0,
-        bucket: 0,
-        name: 0,
-    }
-}
-
-// A header step.
-pub fn header_answer(r: HeaderStep) -> HeaderAnswer
-    ensures { result ≡ header_answer (header_step_of r) }
-{
-    match r {
-        HeaderStep::Header(h, after) => {
-            let offset = h.offset;
-            HeaderAnswer {
-                status: 0,
-                kind: 1,
-                value: offset.0 as u64,
-                next: after.at,
-                index: handle_of(h),
-            }
-        }
-        HeaderStep::End(after) => HeaderAnswer {
+    let next = step.cursor.at;
+    match step.answer {
+        Ok(Some(h)) => HeaderAnswer {
             status: 0,
-            kind: 0,
-            value: 0,
-            next: after.at,
-            index: no_handle(),
+            kind: 1,
+            value: h.offset.0 as u64,
+            next,
+            index: IndexHandle::from(h),
         },
-        HeaderStep::Refused(e, after) => HeaderAnswer {
+        Ok(None) => HeaderAnswer {
+            next,
+            ..HeaderAnswer::default()
+        },
+        Err(e) => HeaderAnswer {
             status: e.number() as u32,
-            kind: 0,
             value: e.value(),
-            next: after.at,
-            index: no_handle(),
+            next,
+            ..HeaderAnswer::default()
         },
     }
 }
 
 // What else the header of a step says.
-pub fn header_facts(r: HeaderStep) -> HeaderFacts
-    ensures { result ≡ header_facts (header_step_of r).answer }
+pub fn header_facts(step: Result<Option<NameIndexHeader>, Error>) -> HeaderFacts
+    ensures { result ≡ header_facts (outcome step) }
 {
-    let h = match r {
-        HeaderStep::Header(h, _) => h,
-        HeaderStep::End(_) => {
-            return HeaderFacts {
+    match step {
+        Ok(Some(h)) => {
+            let (augmentation, augmentation_len) = match h.augmentation_string {
+                Some(a) => (a.place, a.len),
+                None => (0, 0),
+            };
+            HeaderFacts {
                 status: 0,
-                kind: 0,
-                value: 0,
-                augmentation: 0,
-                augmentation_len: 0,
-                version: 0,
+                kind: 1,
+                value: h.length as u64,
+                augmentation,
+                augmentation_len,
+                version: h.version as u32,
             }
         }
-        HeaderStep::Refused(e, _) => {
-            return HeaderFacts {
-                status: e.number() as u32,
-                kind: 0,
-                value: e.value(),
-                augmentation: 0,
-                augmentation_len: 0,
-                version: 0,
-            }
-        }
-    };
-    let augmentation = h.augmentation_string;
-    match augmentation {
-        Augmentation::Some(a) => HeaderFacts {
-            status: 0,
-            kind: 1,
-            value: h.length as u64,
-            augmentation: a.place,
-            augmentation_len: a.len,
-            version: h.version as u32,
-        },
-        Augmentation::None => HeaderFacts {
-            status: 0,
-            kind: 1,
-            value: h.length as u64,
-            augmentation: 0,
-            augmentation_len: 0,
-            version: h.version as u32,
+        Ok(None) => HeaderFacts::default(),
+        Err(e) => HeaderFacts {
+            status: e.number() as u32,
+            value: e.value(),
+            ..HeaderFacts::default()
         },
     }
 }
 
 // A string.
-pub fn string_answer(r: StrRead) -> StringAnswer
-    ensures { result ≡ string_answer (str_outcome r) }
+pub fn string_answer(r: Result<Str, Error>) -> StringAnswer
+    ensures { result ≡ string_answer (outcome r) }
 {
     match r {
-        StrRead::Value(t) => StringAnswer {
+        Ok(t) => StringAnswer {
             status: 0,
             kind: 1,
             value: t.start as u64,
             len: t.len,
         },
-        StrRead::Refused(e) => StringAnswer {
+        Err(e) => StringAnswer {
             status: e.number() as u32,
-            kind: 0,
             value: e.value(),
-            len: 0,
+            ..StringAnswer::default()
         },
     }
 }
 
-// A bucket step. The bucket of its cursor is the caller's own.
-pub fn bucket_step_answer(r: NameBucketStep) -> BucketAnswer
-    ensures { result ≡ bucket_step_answer (bucket_step_of r) }
+// A bucket step, with the cursor after it. The cursor's bucket is the caller's own.
+pub fn bucket_step_answer(step: Step<BucketName, NameBucketIter>) -> BucketAnswer
+    ensures { result ≡ bucket_step_answer (step_of step.answer step.cursor) }
 {
-    match r {
-        NameBucketStep::Name(n, after) => {
-            let name = n.name;
-            let next = after.name_table_index;
-            BucketAnswer {
-                status: 0,
-                kind: 1,
-                value: name.0 as u64,
-                hash: n.hash,
-                next: next.0,
-            }
-        }
-        NameBucketStep::End(after) => {
-            let next = after.name_table_index;
-            BucketAnswer {
-                status: 0,
-                kind: 0,
-                value: 0,
-                hash: 0,
-                next: next.0,
-            }
-        }
-        NameBucketStep::Refused(e, after) => {
-            let next = after.name_table_index;
-            BucketAnswer {
-                status: e.number() as u32,
-                kind: 0,
-                value: e.value(),
-                hash: 0,
-                next: next.0,
-            }
-        }
+    let next = step.cursor.name_table_index.0;
+    match step.answer {
+        Ok(Some(n)) => BucketAnswer {
+            status: 0,
+            kind: 1,
+            value: n.name.0 as u64,
+            hash: n.hash,
+            next,
+        },
+        Ok(None) => BucketAnswer {
+            next,
+            ..BucketAnswer::default()
+        },
+        Err(e) => BucketAnswer {
+            status: e.number() as u32,
+            value: e.value(),
+            next,
+            ..BucketAnswer::default()
+        },
     }
 }
 
 // A lookup by hash.
-pub fn hash_answer(r: HashRead) -> HashAnswer
-    ensures { result ≡ hash_answer (hash_outcome r) }
+#[tactic(auto, unfolding(handles::specs::Handles::no_cursor))]
+pub fn hash_answer(r: Result<NameHashIter, Error>) -> HashAnswer
+    ensures { result ≡ hash_answer (outcome r) }
 {
     match r {
-        HashRead::Value(c) => HashAnswer {
+        Ok(c) => HashAnswer {
             status: 0,
             kind: 1,
             value: 0,
-            next: cursor_of(c),
+            next: HashCursor::from(c),
         },
-        HashRead::Refused(e) => HashAnswer {
+        Err(e) => HashAnswer {
             status: e.number() as u32,
-            kind: 0,
             value: e.value(),
-            next: no_cursor(),
+            ..HashAnswer::default()
         },
     }
 }
 
-// A hash step.
-pub fn hash_step_answer(r: NameHashStep) -> HashAnswer
-    ensures { result ≡ hash_step_answer (hash_step_of r) }
+// A hash step, with the cursor after it.
+pub fn hash_step_answer(step: Step<NameTableIndex, NameHashIter>) -> HashAnswer
+    ensures { result ≡ hash_step_answer (step_of step.answer step.cursor) }
 {
-    match r {
-        NameHashStep::Name(name, after) => HashAnswer {
+    let next = HashCursor::from(step.cursor);
+    match step.answer {
+        Ok(Some(name)) => HashAnswer {
             status: 0,
             kind: 1,
             value: name.0 as u64,
-            next: cursor_of(after),
+            next,
         },
-        NameHashStep::End(after) => HashAnswer {
-            status: 0,
-            kind: 0,
-            value: 0,
-            next: cursor_of(after),
+        Ok(None) => HashAnswer {
+            next,
+            ..HashAnswer::default()
         },
-        NameHashStep::Refused(e, after) => HashAnswer {
+        Err(e) => HashAnswer {
             status: e.number() as u32,
-            kind: 0,
             value: e.value(),
-            next: cursor_of(after),
+            next,
+            ..HashAnswer::default()
         },
     }
 }
 
 // The table check.
-pub fn table_answer(r: TableCheck) -> TableAnswer
-    ensures { result ≡ table_answer (check_outcome r) }
+pub fn table_answer(r: Result<TableCheck, Error>) -> TableAnswer
+    ensures { result ≡ table_answer (outcome r) }
 {
     match r {
-        TableCheck::NoTable => TableAnswer {
-            status: 0,
-            kind: 0,
-            value: 0,
-            name: 0,
-            hash: 0,
-        },
-        TableCheck::Complete => TableAnswer {
-            status: 0,
+        Ok(TableCheck::NoTable) => TableAnswer::default(),
+        Ok(TableCheck::Complete) => TableAnswer {
             kind: 1,
-            value: 0,
-            name: 0,
-            hash: 0,
+            ..TableAnswer::default()
         },
-        TableCheck::Incomplete(n) => {
-            let name = n.name;
-            TableAnswer {
-                status: 0,
-                kind: 2,
-                value: n.missed as u64,
-                name: name.0,
-                hash: n.hash,
-            }
-        }
-        TableCheck::Refused(e) => TableAnswer {
+        Ok(TableCheck::Incomplete(lost)) => TableAnswer {
+            status: 0,
+            kind: 2,
+            value: lost.missed as u64,
+            name: lost.name.0,
+            hash: lost.hash,
+        },
+        Err(e) => TableAnswer {
             status: e.number() as u32,
-            kind: 0,
             value: e.value(),
-            name: 0,
-            hash: 0,
+            ..TableAnswer::default()
         },
     }
 }

@@ -1,50 +1,48 @@
 -- Laws of the strings of .debug_str.
-use Prim.Native.Nat.{ℕ, ◌+◌, ◌-◌, ◌≤◌, ◌<◌}
+use Prim.Native.Nat.{ℕ, ◌+◌, ◌≤◌, ◌<◌}
 use mathlib.Core.Path.{◌≡◌, refl, sym, ap, ◌∙◌}
 use mathlib.Core.List.{List, [], ◌∷◌}
 use mathlib.Core.Bool.{Bool, true, false, cond}
 use native.Mathlib.Omega.{arith}
-use native.Mathlib.Numerals.{add-one}
-use lib.ListN.{length, take, drop, get_or, drop_of_length-le}
-use lib.Seq.{drop-cons}
+use lib.ListN.{length, take, drop, length-drop}
 use lib.Dec.{ltb, eqb}
-use borrow.Author.Tests.{ltb-true, ne_eqb}
+use borrow.Author.Tests.{ltb-true}
+use Rattle.std.specs.List.{position, position_or_len}
+use Rattle.std.proofs.lemmas.List.Recursion.{is_position_or_len}
+use Rattle.std.specs.Prelude.{Some, None}
+use Rattle.std.proofs.lemmas.Bool.Decides.{nat_tests}
 use Rattle.reader.specs.Outcome.{answered, demand, refuse_if}
 use Rattle.reader.specs.Errors.{longest}
 use Rattle.reader.specs.Parts.{skipped}
-use Rattle.strings.specs.Strings.{before_zero, zero_from, Text, get_str, text_bytes, str_bytes}
+use Rattle.strings.specs.declared.Str.{Str}
+use Rattle.strings.specs.Strings.{before_zero, zero_from, get_str, text_bytes, str_bytes}
 use Rattle.strings.specs.Sanity.{StringsEndAtZero}
 use Rattle.reader.proofs.OutcomeLaws.{bind_answered, then_answered, demanded, same_answer}
 use Rattle.reader.proofs.PartLaws.{skip_answered}
 
--- the first zero byte from i on: at i, where a zero byte stands there; else from i + 1 on; where the bytes have ended, there
-pub zero_here : (s : List ℕ) (i : ℕ) → i < length s → get_or s i 0 ≡ 0 → zero_from s i ≡ i
-unfolding zero_from before_zero
-zero_here s i h e =
-    let done : i + 0 ≡ i = omega arith in
-    rw (drop-cons s i 0 h, e, done)
+-- how many bytes stand before the first zero byte: its index, or their number where there is none
+zero-index : (bs : List ℕ) → length (before_zero bs) ≡ position_or_len (λ b. eqb b 0) bs
+unfolding before_zero
+zero-index = is_position_or_len (λ l. length (before_zero l)) (λ b. eqb b 0) refl (λ x xs. go (eqb x 0) x xs)
+  where
+    go : (t : Bool) (x : ℕ) (xs : List ℕ) → length (cond t [] (x ∷ before_zero xs)) ≡ cond t 0 (1 + length (before_zero xs))
+    go true x xs = refl
+    go false x xs = omega arith
 
-pub zero_later : (s : List ℕ) (i : ℕ) → i < length s → (get_or s i 0 ≡ 0 → ⊥) → zero_from s i ≡ zero_from s (i + 1)
-unfolding zero_from before_zero
-zero_later s i h e = rw (add-one i, drop-cons s i 0 h, ne_eqb (get_or s i 0) 0 e) (omega arith)
-
-pub zero_end : (s : List ℕ) (i : ℕ) → length s ≤ i → zero_from s i ≡ i
-unfolding zero_from before_zero
-zero_end s i h =
-    let done : i + 0 ≡ i = omega arith in
-    rw (drop_of_length-le s h, done)
-
-pub zero_after : (s : List ℕ) (start : ℕ) → start ≤ zero_from s start
+-- a zero byte that a search from `start` on finds tells the string's length, and lies inside the section
+pub zero_found : (s : List ℕ) (start len : ℕ) → position (λ b. eqb b 0) (drop start s) ≡ Some len
+    → (length (before_zero (drop start s)) ≡ len) × (ltb (zero_from s start) (length s) ≡ true)
 unfolding zero_from
-zero_after s start = omega arith
+zero_found s start len e = grind (arith, nat_tests, zero-index (drop start s), length-drop start s)
 
--- a string's length is how far its zero byte is from its start
-pub text-length : (s : List ℕ) (start : ℕ) → zero_from s start - start ≡ length (before_zero (drop start s))
+-- where it finds none, none lies inside the section
+pub zero_missing : (s : List ℕ) (start : ℕ) → start ≤ length s → position (λ b. eqb b 0) (drop start s) ≡ None
+    → ltb (zero_from s start) (length s) ≡ false
 unfolding zero_from
-text-length s start = omega arith
+zero_missing s start h e = grind (arith, nat_tests, zero-index (drop start s), length-drop start s)
 
 -- what an answered string says: it starts at the offset and lies inside the section, with its zero byte right after it
-pub str_answered : (s : List ℕ) (offset : ℕ) (t : Text) → get_str s offset ≡ answered t
+pub str_answered : (s : List ℕ) (offset : ℕ) (t : Str) → get_str s offset ≡ answered t
     → (t.start ≡ 0 + offset) × (t.len ≡ length (before_zero (drop t.start s))) × (t.start + t.len < length s)
 unfolding get_str zero_from
 str_answered s offset t e =
@@ -55,6 +53,10 @@ str_answered s offset t e =
     let begins : t.start ≡ start = ap (λ x. x.start) (sym (same_answer w)) in
     let long : t.len ≡ length (before_zero (drop start s)) = ap (λ x. x.len) (sym (same_answer w)) in
     (begins ∙ (skip_answered offset s 0 (length s) start o).1, rw begins long, omega arith)
+
+-- so what a caller cuts out of the section is there
+pub str_inside : (s : List ℕ) (offset : ℕ) (t : Str) → get_str s offset ≡ answered t → t.start + t.len < length s
+str_inside s offset t e = (str_answered s offset t e).2
 
 before-take : (bs : List ℕ) → take (length (before_zero bs)) bs ≡ before_zero bs
 unfolding before_zero

@@ -1,8 +1,9 @@
 -- What a reader of the definitions may want to be sure of. The law of proofs/StringLaws.antt that has this type proves it.
 use Rattle.std.specs.Prelude.{ℕ, ◌≡◌, List, drop}
 use Rattle.reader.specs.Outcome.{answered}
-use Rattle.strings.specs.Strings.{before_zero, Text, get_str, str_bytes}
+use Rattle.strings.specs.declared.Str.{Str}
+use Rattle.strings.specs.Strings.{before_zero, get_str, str_bytes}
 
 -- the bytes of an answered string are those before the first zero byte from its offset on
 abbrev pub StringsEndAtZero : Type 0
-StringsEndAtZero = (s : List ℕ) (offset : ℕ) (t : Text) → get_str s offset ≡ answered t → str_bytes s offset ≡ before_zero (drop offset s)
+StringsEndAtZero = (s : List ℕ) (offset : ℕ) (t : Str) → get_str s offset ≡ answered t → str_bytes s offset ≡ before_zero (drop offset s)

@@ -3,6 +3,7 @@ use Rattle.std.specs.Prelude.{ℕ, ◌+◌, List, [], ◌∷◌, cond, length, t
 use Rattle.reader.specs.Outcome.{Outcome, answered, refused, ◌>>=◌, ◌>>◌, demand, refuse_if}
 use Rattle.reader.specs.Errors.{longest}
 use Rattle.reader.specs.Parts.{skipped}
+use Rattle.strings.specs.declared.Str.{Str}
 
 -- the bytes before the first zero byte
 unfoldable pub before_zero : List ℕ → List ℕ
@@ -13,13 +14,8 @@ before_zero (b ∷ bs) = cond (eqb b 0) [] (b ∷ before_zero bs)
 unfoldable pub zero_from : List ℕ → ℕ → ℕ
 zero_from s start = start + length (before_zero (drop start s))
 
--- where a string begins, and how many bytes it has
-pub record Text : Type 0 where
-  pub start : ℕ
-  pub len : ℕ
-
 -- the string at an offset: up to the first zero byte; refusal 1 at its start where there is none, and at 0 where the offset lies past the end
-unfoldable pub get_str : List ℕ → ℕ → Outcome Text
+unfoldable pub get_str : List ℕ → ℕ → Outcome Str
 get_str s offset = do
   refuse_if (ltb longest (length s)) 13 0
   start ← skipped offset s 0 (length s)
@@ -27,7 +23,7 @@ get_str s offset = do
   answered (record { start = start; len = length (before_zero (drop start s)) })
 
 -- the bytes that stand there; none where it is refused
-unfoldable pub text_bytes : List ℕ → Outcome Text → List ℕ
+unfoldable pub text_bytes : List ℕ → Outcome Str → List ℕ
 text_bytes s (answered t) = take t.len (drop t.start s)
 text_bytes s (refused n v) = []
 

@@ -1,8 +1,9 @@
--- Laws of the check: the starts, one at a time; the missed names, all of them and one at a time; the verdict; that it tells what document 01's does; and
--- what the two loops keep from turn to turn.
-use Prim.Native.Nat.{ℕ, suc, ◌+◌, ◌-◌, ◌*◌, ◌≤◌, ◌<◌}
+-- Laws of the check: the starts, asked of a range of buckets; the missed names, all of them and one at a time; the verdict; that it tells what document
+-- 01's does; and what the two loops go by.
+use Prim.Native.Nat.{ℕ, zero, suc, ◌+◌, ◌-◌, ◌≤◌, ◌<◌}
 use mathlib.Core.Path.{◌≡◌, refl, sym, ap, ◌∙◌}
-use mathlib.Core.Bool.{Bool, true, false, not, cond}
+use mathlib.Core.Bool.{Bool, true, false, not, cond, ◌||◌}
+use Rattle.std.specs.List.{list_any, range_with_len}
 use mathlib.Core.Logic.{◌⊎◌, inl, inr, ⊎_elim}
 use mathlib.Core.List.{List, [], ◌∷◌, ◌++◌, append-nil}
 use native.Mathlib.Omega.{arith}
@@ -20,35 +21,35 @@ use Rattle.index.proofs.LayoutLaws.{fitted-answered}
 use Rattle.reader.specs.Lists.{numbers_from, filterb}
 use Rattle.hashes.specs.Table.{nth_of, stored_start, stored_hash, bucket_of, names_from, run}
 use Rattle.reader.proofs.ListLaws.{false_true, numbers_length, filter-length, filter_step, filter-last, filter-first, filter_none, member_filter, member_holds, filter-below, numbers_member, past-other}
-use Rattle.hashes.proofs.TableLaws.{buckets-end, hashes_end, strings_inside, bucket-below}
+use Rattle.hashes.proofs.TableLaws.{bucket-below}
 use Rattle.tables.specs.declared.Segment.{Segment}
-use Rattle.tables.specs.declared.Walk.{Walk}
 use Rattle.tables.specs.declared.Count.{Count}
-use Rattle.tables.specs.Segments.{no_segment, followed, segment_before, walked_to, first_or, reached_by, one_more, counted_at}
-use Rattle.tables.proofs.SegmentLaws.{Before, before-all, before_suc, followed-bucket, reached_member}
+use Rattle.tables.specs.Segments.{no_segment, followed, segment_before, first_or, reached_by, one_more}
+use Rattle.tables.proofs.SegmentLaws.{before-all, before_suc, followed-bucket, reached_member}
 use Rattle.tables.specs.Sanity.{Told, no_hash_table, told_by, told_of, told_before, ToldAsBefore, MissedExactly}
-use Rattle.tables.specs.Check.{Checked, no_table, complete, incomplete, start_above, any_above, is_missed, missed_names, verdict, table_check}
+use Rattle.tables.specs.declared.TableCheck.{TableCheck}
+use Rattle.tables.specs.Check.{start_above, any_above, is_missed, missed_names, verdict, table_check}
 
--- whether a bucket from a number on has a start above N + 1
-unfoldable pub above_from : ℕ → (ℕ → ℕ) → ℕ → ℕ → Bool
-above_from names start_of buckets bucket = ltb 0 (length (filterb (start_above names start_of) (numbers_from bucket (buckets - bucket))))
-
-pub above_first : (names : ℕ) (start_of : ℕ → ℕ) (buckets : ℕ) → any_above names start_of buckets ≡ above_from names start_of buckets 0
-unfolding any_above above_from
-above_first names start_of buckets = let all : buckets - 0 ≡ buckets = omega arith in rw all
-
-pub above_step : (names : ℕ) (start_of : ℕ → ℕ) (buckets bucket : ℕ)
-    → above_from names start_of buckets bucket ≡ cond (ltb bucket buckets) (cond (ltb (names + 1) (start_of bucket)) true (above_from names start_of buckets (bucket + 1))) false
-unfolding above_from start_above
-above_step names start_of buckets bucket = rw (filter_step (start_above names start_of) buckets bucket) (tested (ltb bucket buckets) (ltb (names + 1) (start_of bucket)))
+-- some of these elements pass a test exactly if those that pass are more than 0
+some_pass : {A : Type 0} (test : A → Bool) (xs : List A) → list_any test xs ≡ ltb 0 (length (filterb test xs))
+unfolding filterb
+some_pass test [] = refl
+some_pass test (x ∷ xs) = tested (test x) (some_pass test xs)
   where
-    after : List ℕ
-    after = filterb (start_above names start_of) (numbers_from (bucket + 1) (buckets - (bucket + 1)))
+    tested : (t : Bool) → list_any test xs ≡ ltb 0 (length (filterb test xs)) → (t || list_any test xs) ≡ ltb 0 (length (cond t (x ∷ filterb test xs) (filterb test xs)))
+    tested true more = sym (lt-ltb 0 (suc (length (filterb test xs))) (omega arith))
+    tested false more = more
 
-    tested : (t u : Bool) → ltb 0 (length (cond t (cond u (bucket ∷ after) after) [])) ≡ cond t (cond u true (ltb 0 (length after))) false
-    tested true true = lt-ltb 0 (suc (length after)) (omega arith)
-    tested true false = refl
-    tested false u = refl
+-- the numbers from k on are those of a range
+in_range : (k n : ℕ) → range_with_len k n ≡ numbers_from k n
+unfolding numbers_from
+in_range k zero = refl
+in_range k (suc n) = ap (λ l. k ∷ l) (in_range (k + 1) n)
+
+-- whether a start is above N + 1, asked of one bucket after another
+pub any_of_range : (names : ℕ) (start_of : ℕ → ℕ) (buckets : ℕ) → list_any (λ bucket. ltb (names + 1) (start_of bucket)) (range_with_len 0 buckets) ≡ any_above names start_of buckets
+unfolding any_above start_above
+any_of_range names start_of buckets = rw (in_range 0 buckets) (some_pass (start_above names start_of) (numbers_from 0 buckets))
 
 -- the missed names are the names of the index that the run of their own bucket does not reach
 pub missed_exactly : MissedExactly
@@ -114,27 +115,27 @@ kept-last (first ∷ more) name =
     rw (ne_eqb (suc (length more)) 0 (λ e. omega arith), longer)
 
 -- the verdict by what is kept
-verdict_none : (hash_of : ℕ → ℕ) (names : List ℕ) → (kept names).missed ≡ 0 → verdict hash_of names ≡ complete
+verdict_none : (hash_of : ℕ → ℕ) (names : List ℕ) → (kept names).missed ≡ 0 → verdict hash_of names ≡ TableCheck.Complete
 unfolding kept verdict
 verdict_none hash_of [] none = refl
 verdict_none hash_of (name ∷ more) none = absurd (omega arith)
 
 verdict-some : (hash_of : ℕ → ℕ) (names : List ℕ) → ((kept names).missed ≡ 0 → ⊥)
-    → verdict hash_of names ≡ incomplete (record { missed = (kept names).missed; name = record { 0 = (kept names).least }; hash = hash_of (kept names).least })
+    → verdict hash_of names ≡ TableCheck.Incomplete (record { missed = (kept names).missed; name = record { 0 = (kept names).least }; hash = hash_of (kept names).least })
 unfolding kept verdict
 verdict-some hash_of [] some = absurd (some refl)
 verdict-some hash_of (name ∷ more) some = refl
 
 -- the verdict is complete for no names only, and never that there is no table
-pub no_table_complete : no_table ≡ complete → ⊥
+pub no_table_complete : TableCheck.NoTable ≡ TableCheck.Complete → ⊥
 no_table_complete e = let z : ◌≡◌ {A = ℕ} 0 1 = cc in omega arith
 
-pub verdict-complete : (hash_of : ℕ → ℕ) (names : List ℕ) → verdict hash_of names ≡ complete → names ≡ []
+pub verdict-complete : (hash_of : ℕ → ℕ) (names : List ℕ) → verdict hash_of names ≡ TableCheck.Complete → names ≡ []
 unfolding verdict
 verdict-complete hash_of [] e = refl
 verdict-complete hash_of (name ∷ more) e = let z : ◌≡◌ {A = ℕ} 0 1 = cc in absurd (omega arith)
 
-pub verdict-table : (hash_of : ℕ → ℕ) (names : List ℕ) → verdict hash_of names ≡ no_table → ⊥
+pub verdict-table : (hash_of : ℕ → ℕ) (names : List ℕ) → verdict hash_of names ≡ TableCheck.NoTable → ⊥
 unfolding verdict
 verdict-table hash_of [] e = no_table_complete (sym e)
 verdict-table hash_of (name ∷ more) e = let z : ◌≡◌ {A = ℕ} 0 1 = cc in omega arith
@@ -149,9 +150,9 @@ pub told_as_before : ToldAsBefore
 unfolding table_check told_before
 told_as_before order s i = fit_or_not (fitted s i)
   where
-    rest : Parts → Outcome Checked
+    rest : Parts → Outcome TableCheck
     rest p =
-        cond (eqb i.bucket_count 0) (answered no_table)
+        cond (eqb i.bucket_count 0) (answered TableCheck.NoTable)
         (refuse_if (any_above i.name_count (stored_start order s p) i.bucket_count) 1 p.hash_table_data >> answered (verdict (stored_hash order s p) (missed_names order s i)))
 
     told : Parts → Outcome Told
@@ -160,7 +161,7 @@ told_as_before order s i = fit_or_not (fitted s i)
         (refuse_if (any_above i.name_count (stored_start order s p) i.bucket_count) 1 p.hash_table_data >> answered (told_of (length (missed_names order s i))))
 
     tested : (p : Parts) (t u : Bool)
-        → (cond t (answered no_table) (refuse_if u 1 p.hash_table_data >> answered (verdict (stored_hash order s p) (missed_names order s i))) >>= λ checked. answered (told_by checked))
+        → (cond t (answered TableCheck.NoTable) (refuse_if u 1 p.hash_table_data >> answered (verdict (stored_hash order s p) (missed_names order s i))) >>= λ checked. answered (told_by checked))
         ≡ cond t (answered no_hash_table) (refuse_if u 1 p.hash_table_data >> answered (told_of (length (missed_names order s i))))
     tested p true u = refl
     tested p false true = refl
@@ -171,15 +172,15 @@ told_as_before order s i = fit_or_not (fitted s i)
     fit_or_not (refused n v) = refl
 
 -- an index that fits its section, with a hash table whose starts are all at most N + 1
-pub record Taken (order : RunTimeEndian) (s : List ℕ) (i : NameIndex) : Type 0 where
+pub record IsTaken (order : RunTimeEndian) (s : List ℕ) (i : NameIndex) : Type 0 where
   pub short : length s ≤ longest
   pub fits : Fits s i
   pub buckets : 0 < i.bucket_count
   pub none_above : any_above i.name_count (stored_start order s (parts i)) i.bucket_count ≡ false
 
 -- what the check has found where it answers: an index without buckets; or such a table, and the verdict on its names
-pub check-answered : (order : RunTimeEndian) (s : List ℕ) (i : NameIndex) (a : Checked) → table_check order s i ≡ answered a
-    → ((i.bucket_count ≡ 0) × (no_table ≡ a)) ⊎ (Taken order s i × (verdict (stored_hash order s (parts i)) (missed_names order s i) ≡ a))
+pub check-answered : (order : RunTimeEndian) (s : List ℕ) (i : NameIndex) (a : TableCheck) → table_check order s i ≡ answered a
+    → ((i.bucket_count ≡ 0) × (TableCheck.NoTable ≡ a)) ⊎ (IsTaken order s i × (verdict (stored_hash order s (parts i)) (missed_names order s i) ≡ a))
 unfolding table_check
 check-answered order s i a e =
     let (p, given, rest) = bind_answered (fitted s i) _ a e in
@@ -199,181 +200,100 @@ check-answered order s i a e =
     ))
     (cond_is (eqb i.bucket_count 0) _ _ (answered a) rest)
 
--- the missed names from a number on
-unfoldable pub missed_from : RunTimeEndian → List ℕ → NameIndex → ℕ → List ℕ
-missed_from order s i name = filterb (is_missed order s i) (names_from i name)
+-- what both loops go by: the segment before a name, and whether the name is missed
+module _ (order : RunTimeEndian) (s : List ℕ) (i : NameIndex) where
+  abbrev pub walked : ℕ → Segment
+  walked name = segment_before i (stored_hash order s (parts i)) name
 
--- what both loops keep: where the table stands, and the segment before a name
-pub record Passing (order : RunTimeEndian) (s : List ℕ) (i : NameIndex) (starts hashes : ℕ) (g : Segment) (name : ℕ) : Type 0 where
-  pub at_starts : starts ≡ (parts i).bucket_data
-  pub at_hashes : hashes ≡ (parts i).hash_table_data
-  pub fits : Fits s i
-  pub some : 0 < i.bucket_count
-  pub within : name ≤ i.name_count
-  pub own : g ≡ segment_before i (stored_hash order s (parts i)) name
+  pub walked_first : no_segment i ≡ walked 0
+  unfolding segment_before
+  walked_first = refl
 
-passing_to : (order : RunTimeEndian) (s : List ℕ) (i : NameIndex) (p : Parts) → answered p ≡ fitted s i → 0 < i.bucket_count → (name : ℕ) → name ≤ i.name_count
-    → Passing order s i p.bucket_data p.hash_table_data (segment_before i (stored_hash order s (parts i)) name) name
-passing_to order s i p given some name within =
-    let (short, fits, same) = fitted-answered s i p (sym given) in
-    record {
-      at_starts = ap (λ q. q.bucket_data) same;
-      at_hashes = ap (λ q. q.hash_table_data) same;
-      fits = fits;
-      some = some;
-      within = within;
-      own = refl;
-    }
+  -- the missed names from a number on
+  unfoldable pub missed_from : ℕ → List ℕ
+  missed_from name = filterb (is_missed order s i) (names_from i name)
 
-module _ (order : RunTimeEndian) (s : List ℕ) (i : NameIndex) (starts hashes : ℕ) (g : Segment) (name : ℕ) (k : Passing order s i starts hashes g name) where
-  -- where the numbers of the table stand
-  pub hash-inside : (n : ℕ) → n < i.name_count → hashes + 4 * n + 4 ≤ length s
-  hash-inside n below = omega (arith, k.at_hashes, hashes_end i k.some, strings_inside s i k.fits)
+  pub left_all : missed_names order s i ≡ missed_from 0
+  unfolding missed_names missed_from
+  left_all = refl
 
-  pub start-inside : (after : Segment) → after ≡ followed i g name (nth_of order s hashes name) → starts + 4 * after.bucket + 4 ≤ length s
-  start-inside after is =
-      rw (is, followed-bucket i (nth_of order s hashes) name g)
-      (omega (arith, k.at_starts, buckets-end i, hashes_end i k.some, strings_inside s i k.fits, bucket-below i (nth_of order s hashes name) k.some))
+  -- those from a name on: with it, where it is missed, and those after it
+  left_step : (name : ℕ) → missed_from name ≡ cond (ltb name i.name_count) (cond (is_missed order s i name) (name ∷ missed_from (name + 1)) (missed_from (name + 1))) []
+  unfolding missed_from names_from
+  left_step name = filter_step (is_missed order s i) i.name_count name
 
-  own-after : (after : Segment) → after ≡ followed i g name (nth_of order s hashes name) → after ≡ segment_before i (stored_hash order s (parts i)) (name + 1)
-  unfolding stored_hash
-  own-after after is = rw (before_suc i (stored_hash order s (parts i)) name, ← k.own, ← k.at_hashes) is
+  pub left_on : (name : ℕ) → name < i.name_count → is_missed order s i name ≡ false → missed_from name ≡ missed_from (name + 1)
+  left_on name below reached = rw (left_step name, lt-ltb name i.name_count below, reached)
 
-  -- one more name, with its segment
-  pub passing-next : (after : Segment) → after ≡ followed i g name (nth_of order s hashes name) → name < i.name_count → Passing order s i starts hashes after (name + 1)
-  passing-next after is below = record {
-    at_starts = k.at_starts;
-    at_hashes = k.at_hashes;
-    fits = k.fits;
-    some = k.some;
-    within = omega arith;
-    own = own-after after is;
-  }
+  pub left_found : (name : ℕ) → name < i.name_count → is_missed order s i name ≡ true → missed_from name ≡ name ∷ missed_from (name + 1)
+  left_found name below missed = rw (left_step name, lt-ltb name i.name_count below, missed)
 
-  -- whether the name is reached
-  pub reached-here : (after : Segment) → after ≡ followed i g name (nth_of order s hashes name) → name < i.name_count
-      → not (reached_by (nth_of order s starts after.bucket) after.first name) ≡ is_missed order s i name
+  pub left_none : (name : ℕ) → i.name_count ≤ name → missed_from name ≡ []
+  left_none name above = rw (left_step name, le-ltb name i.name_count above)
+
+  -- whether a name is reached, by its segment
+  pub missed_here : (name : ℕ) → name < i.name_count
+      → is_missed order s i name ≡ not (reached_by (nth_of order s (parts i).bucket_data (walked (name + 1)).bucket) (walked (name + 1)).first name)
   unfolding stored_start stored_hash is_missed run
-  reached-here after is below =
-      rw (k.at_starts, ← of_bucket)
-      (ap not (reached_member i (stored_hash order s (parts i)) name after (stored_start order s (parts i) after.bucket) next below))
+  missed_here name below =
+      rw (← of_bucket)
+      (ap not (sym (reached_member i (stored_hash order s (parts i)) name (walked (name + 1)) (stored_start order s (parts i) (walked (name + 1)).bucket) (before-all i (stored_hash order s (parts i)) (name + 1)) below)))
     where
-      hashed : after ≡ followed i g name (stored_hash order s (parts i) name)
-      hashed = rw k.at_hashes at is
+      of_bucket : (walked (name + 1)).bucket ≡ bucket_of i (stored_hash order s (parts i) name)
+      of_bucket = rw (before_suc i (stored_hash order s (parts i)) name) (followed-bucket i (stored_hash order s (parts i)) name (walked name))
 
-      next : Before i (stored_hash order s (parts i)) (name + 1) after
-      next = rw (own-after after is) (before-all i (stored_hash order s (parts i)) (name + 1))
+  -- what is kept of the names that were missed before a name
+  unfoldable pub kept_before : ℕ → Count
+  kept_before name = kept (missed_below order s i name)
 
-      of_bucket : after.bucket ≡ bucket_of i (stored_hash order s (parts i) name)
-      of_bucket = rw hashed (followed-bucket i (stored_hash order s (parts i)) name g)
+  pub kept_on : (name : ℕ) → is_missed order s i name ≡ false → kept_before (name + 1) ≡ kept_before name
+  unfolding kept_before
+  kept_on name reached = rw (missed_last order s i name, reached) (ap kept (append-nil (missed_below order s i name)))
 
--- what the first loop keeps besides: no name was missed before a name
-pub record Searching (order : RunTimeEndian) (s : List ℕ) (i : NameIndex) (starts hashes : ℕ) (g : Segment) (name : ℕ) : Type 0 where
-  pub passing : Passing order s i starts hashes g name
-  pub left : missed_names order s i ≡ missed_from order s i name
+  pub kept_more : (name : ℕ) → is_missed order s i name ≡ true → kept_before (name + 1) ≡ one_more (kept_before name) name
+  unfolding kept_before
+  kept_more name missed = rw (missed_last order s i name, missed) (kept-last (missed_below order s i name) name)
 
-pub searching_first : (order : RunTimeEndian) (s : List ℕ) (i : NameIndex) (p : Parts) → answered p ≡ fitted s i → 0 < i.bucket_count
-    → Searching order s i p.bucket_data p.hash_table_data (no_segment i) 0
-unfolding segment_before missed_names missed_from
-searching_first order s i p given some = record { passing = passing_to order s i p given some 0 (omega arith); left = refl }
-
-module _ (order : RunTimeEndian) (s : List ℕ) (i : NameIndex) (starts hashes : ℕ) (g : Segment) (name : ℕ) (k : Searching order s i starts hashes g name) where
-  -- the missed names from a name on: with it, where it is missed, and those after it
-  left_here : name < i.name_count → missed_names order s i ≡ cond (is_missed order s i name) (name ∷ missed_from order s i (name + 1)) (missed_from order s i (name + 1))
-  unfolding missed_from names_from
-  left_here below = rw (k.left, filter_step (is_missed order s i) i.name_count name, lt-ltb name i.name_count below)
-
-  left_none : i.name_count ≤ name → missed_names order s i ≡ []
-  unfolding missed_from names_from
-  left_none above = rw (k.left, filter_step (is_missed order s i) i.name_count name, le-ltb name i.name_count above)
-
-  -- one more name, which is reached
-  pub searching_next : (after : Segment) → after ≡ followed i g name (nth_of order s hashes name) → name < i.name_count
-      → not (reached_by (nth_of order s starts after.bucket) after.first name) ≡ false → Searching order s i starts hashes after (name + 1)
-  searching_next after is below reached = record {
-    passing = passing-next order s i starts hashes g name k.passing after is below;
-    left = left_here below ∙ rw (← reached-here order s i starts hashes g name k.passing after is below, reached);
-  }
-
-  -- one that is not is the first missed name
-  pub searching_found : (after : Segment) → after ≡ followed i g name (nth_of order s hashes name) → name < i.name_count
-      → not (reached_by (nth_of order s starts after.bucket) after.first name) ≡ true
-      → record { segment = g; name = name } ≡ walked_to i (stored_hash order s (parts i)) (first_or i.name_count (missed_names order s i))
-  unfolding walked_to first_or
-  searching_found after is below missed =
-      rw (left_here below, ← reached-here order s i starts hashes g name k.passing after is below, missed, k.passing.own)
-
-  -- and after the last name there is none
-  pub searching_end : i.name_count ≤ name → record { segment = g; name = name } ≡ walked_to i (stored_hash order s (parts i)) (first_or i.name_count (missed_names order s i))
-  unfolding walked_to first_or
-  searching_end above =
-      let last : name ≡ i.name_count = omega (arith, k.passing.within) in
-      rw (left_none above, k.passing.own, last)
-
--- up to it no name is missed
-before_missed : (order : RunTimeEndian) (s : List ℕ) (i : NameIndex) (names : List ℕ) → missed_names order s i ≡ names
-    → (first_or i.name_count names ≤ i.name_count) × (missed_below order s i (first_or i.name_count names) ≡ [])
-unfolding first_or
-before_missed order s i [] e = (omega arith, missed_all order s i ∙ e)
-before_missed order s i (first ∷ more) e = none_below order s i first more e
-
--- what the second loop keeps besides: what is kept of the names that were missed before a name
-pub record Counting (order : RunTimeEndian) (s : List ℕ) (i : NameIndex) (starts hashes : ℕ) (g : Segment) (count : Count) (name : ℕ) : Type 0 where
-  pub passing : Passing order s i starts hashes g name
-  pub counted : count ≡ kept (missed_below order s i name)
-
-pub counting_first : (order : RunTimeEndian) (s : List ℕ) (i : NameIndex) (p : Parts) → answered p ≡ fitted s i → 0 < i.bucket_count → (w : Walk)
-    → w ≡ walked_to i (stored_hash order s (parts i)) (first_or i.name_count (missed_names order s i))
-    → Counting order s i p.bucket_data p.hash_table_data w.segment (record { missed = 0; least = 0 }) w.name
-unfolding walked_to kept
-counting_first order s i p given some w is =
-    let (within, nothing) = before_missed order s i (missed_names order s i) refl in
-    rw is record {
-      passing = passing_to order s i p given some (first_or i.name_count (missed_names order s i)) within;
-      counted = rw nothing;
-    }
-
-module _ (order : RunTimeEndian) (s : List ℕ) (i : NameIndex) (starts hashes : ℕ) (g : Segment) (count : Count) (name : ℕ) (k : Counting order s i starts hashes g count name) where
   -- no more names are missed than were passed
-  pub missed_most : count.missed ≤ name
-  unfolding missed_below
-  missed_most =
+  pub kept_most : (name : ℕ) → (kept_before name).missed ≤ name
+  unfolding missed_below kept_before
+  kept_most name =
       let most = filter-length (is_missed order s i) (numbers_from 0 name) in
-      rw (k.counted, kept-length (missed_below order s i name)) (rw (numbers_length 0 name) at most)
-
-  -- one more name, with its segment
-  pub counting_next : (after : Segment) → after ≡ followed i g name (nth_of order s hashes name) → name < i.name_count
-      → Counting order s i starts hashes after (counted_at count after (nth_of order s starts after.bucket) name) (name + 1)
-  unfolding counted_at
-  counting_next after is below = record {
-    passing = passing-next order s i starts hashes g name k.passing after is below;
-    counted =
-        rw (missed_last order s i name, ← reached-here order s i starts hashes g name k.passing after is below, k.counted)
-        (one_more_lem (reached_by (nth_of order s starts after.bucket) after.first name));
-  }
-    where
-      one_more_lem : (t : Bool) → cond t (kept (missed_below order s i name)) (one_more (kept (missed_below order s i name)) name) ≡ kept (missed_below order s i name ++ cond (not t) (name ∷ []) [])
-      one_more_lem true = ap kept (sym (append-nil (missed_below order s i name)))
-      one_more_lem false = sym (kept-last (missed_below order s i name) name)
-
-  -- after the last name all missed ones are counted, and the verdict follows from the count
-  counting_last : i.name_count ≤ name → count ≡ kept (missed_names order s i)
-  counting_last above =
-      let last : name ≡ i.name_count = omega (arith, k.passing.within) in
-      rw (k.counted, last, missed_all order s i)
-
-  pub none_counted : (hash_of : ℕ → ℕ) → i.name_count ≤ name → count.missed ≡ 0 → verdict hash_of (missed_names order s i) ≡ complete
-  none_counted hash_of above none = verdict_none hash_of (missed_names order s i) (rw (counting_last above) at none)
-
-  pub some-counted : (hash_of : ℕ → ℕ) → i.name_count ≤ name → (count.missed ≡ 0 → ⊥)
-      → verdict hash_of (missed_names order s i) ≡ incomplete (record { missed = count.missed; name = record { 0 = count.least }; hash = hash_of count.least })
-  some-counted hash_of above some = rw (counting_last above) (verdict-some hash_of (missed_names order s i) (rw (counting_last above) at some))
+      rw (kept-length (missed_below order s i name)) (rw (numbers_length 0 name) at most)
 
   -- the smallest missed name is one of the names that were passed
-  pub least_below : (count.missed ≡ 0 → ⊥) → count.least < i.name_count
-  unfolding kept missed_below
-  least_below some = rw k.counted (of_kept (missed_below order s i name) refl (rw k.counted at some))
+  pub kept_least : (name : ℕ) → ((kept_before name).missed ≡ 0 → ⊥) → (kept_before name).least < name
+  unfolding kept kept_before missed_below
+  kept_least name = of_kept (missed_below order s i name) refl
     where
-      of_kept : (names : List ℕ) → missed_below order s i name ≡ names → ((kept names).missed ≡ 0 → ⊥) → (kept names).least < i.name_count
+      of_kept : (names : List ℕ) → missed_below order s i name ≡ names → ((kept names).missed ≡ 0 → ⊥) → (kept names).least < name
       of_kept [] e some = absurd (some refl)
-      of_kept (first ∷ more) e some = let (above, below, holds, none) = filter-first (is_missed order s i) 0 name first more e in omega (arith, k.passing.within)
+      of_kept (first ∷ more) e some = let (above, below, holds, none) = filter-first (is_missed order s i) 0 name first more e in omega arith
+
+  -- up to the first missed name none is missed
+  pub kept_first : (first_or i.name_count (missed_names order s i) ≤ i.name_count) × (kept_before (first_or i.name_count (missed_names order s i)) ≡ record { missed = 0; least = 0 })
+  unfolding first_or kept_before kept
+  kept_first = of_names (missed_names order s i) refl
+    where
+      of_names : (names : List ℕ) → missed_names order s i ≡ names → (first_or i.name_count names ≤ i.name_count) × (kept (missed_below order s i (first_or i.name_count names)) ≡ record { missed = 0; least = 0 })
+      of_names [] e = (omega arith, rw (missed_all order s i ∙ e))
+      of_names (first ∷ more) e = let (within, nothing) = none_below order s i first more e in (within, rw nothing)
+
+  -- after the last name the verdict follows from the count
+  pub told_complete : (hash_of : ℕ → ℕ) → (kept_before i.name_count).missed ≡ 0 → verdict hash_of (missed_names order s i) ≡ TableCheck.Complete
+  unfolding kept_before
+  told_complete hash_of none = verdict_none hash_of (missed_names order s i) (rw (missed_all order s i) at none)
+
+  pub told_lost : (hash_of : ℕ → ℕ) → ((kept_before i.name_count).missed ≡ 0 → ⊥)
+      → verdict hash_of (missed_names order s i)
+      ≡ TableCheck.Incomplete (record { missed = (kept_before i.name_count).missed; name = record { 0 = (kept_before i.name_count).least }; hash = hash_of (kept_before i.name_count).least })
+  unfolding kept_before
+  told_lost hash_of some = rw (missed_all order s i) (verdict-some hash_of (missed_names order s i) (rw (missed_all order s i) at some))
+
+-- the segment of a name is of a bucket that the index has
+pub followed_below : (i : NameIndex) (g : Segment) (name hash : ℕ) → 0 < i.bucket_count → (followed i g name hash).bucket < i.bucket_count
+followed_below i g name hash some = rw (followed-bucket i (λ n. hash) name g) (bucket-below i hash some)
+
+-- the parts that `fitted` gives are the index's
+pub fitted_parts : (s : List ℕ) (i : NameIndex) (p : Parts) → answered p ≡ fitted s i → p ≡ parts i
+fitted_parts s i p given = (fitted-answered s i p (sym given)).2

@@ -4,7 +4,7 @@ use mathlib.Core.Path.{◌≡◌, refl, sym, ap, ◌∙◌}
 use mathlib.Core.Bool.{Bool, true, false, not, cond}
 use mathlib.Core.Logic.{⊎_elim}
 use mathlib.Core.List.{List, [], ◌∷◌, map}
-use mathlib.Core.Option.{Option, some, none}
+use Rattle.std.specs.Prelude.{Option, Some, None, Ok}
 use native.Mathlib.Omega.{arith}
 use lib.ListN.{length}
 use lib.Seq.{take_all}
@@ -13,7 +13,7 @@ use borrow.Author.Tests.{ltb-true, ltb-false, le-ltb, leb-true, leb-false, eqb-t
 use Rattle.reader.specs.Outcome.{Outcome, answered, refused}
 use Rattle.reader.specs.Errors.{longest}
 use Rattle.reader.specs.Numbers.{Bytes}
-use Rattle.reader.specs.Steps.{Linked, has_end, up_to_end}
+use Rattle.reader.specs.Steps.{Linked, has_end, up_to_end, Taken}
 use Rattle.reader.specs.declared.endianity.RunTimeEndian.{RunTimeEndian}
 use Rattle.reader.specs.declared.common.NameTableIndex.{NameTableIndex}
 use Rattle.reader.proofs.NumberLaws.{number_read, read_below}
@@ -21,19 +21,18 @@ use Rattle.index.specs.declared.layout.NameIndex.{NameIndex}
 use Rattle.index.specs.Layout.{parts, Fits}
 use Rattle.index.proofs.LayoutLaws.{fitted-fits}
 use Rattle.hashes.specs.declared.hash.NameHashIter.{NameHashIter}
-use Rattle.hashes.specs.declared.hash.HashRead.{HashRead}
-use Rattle.hashes.specs.declared.hash.NameHashStep.{NameHashStep}
 use Rattle.reader.specs.Lists.{numbers_from, filterb, memberb}
 use Rattle.hashes.specs.Table.{nth_of, stored_start, stored_hash, bucket_of, names_from, run_from, from_start, run, storing, names_of_hash, all_storing}
 use Rattle.hashes.specs.Lookups.{find_by_hash, hash_step}
-use Rattle.hashes.specs.Answers.{hash_outcome, hash_step_of}
 use Rattle.hashes.specs.Demand3.{hash_answers, hash_names}
 use Rattle.reader.proofs.ListLaws.{false_true, never_true, filter_step, filter_none, filter-later, member_filter, filter-below, no_members}
 use Rattle.hashes.proofs.TableLaws.{bucket-below, bucket_itself, storing_step, of_run, hashes_inside}
 use Rattle.hashes.proofs.LookupLaws.{started, find-fits, find-answered, hash-answered, hash-lookups, hashes_have_end, steps_follow}
-use Rattle.tables.specs.Check.{no_table, complete, start_above, any_above, is_missed, missed_names, verdict, table_check}
+use Rattle.tables.specs.declared.TableCheck.{TableCheck}
+use Rattle.tables.specs.Check.{start_above, any_above, is_missed, missed_names, verdict, table_check}
 use Rattle.tables.specs.Demand3.{ListsAll, CompleteExactly}
-use Rattle.tables.proofs.CheckLaws.{missed_exactly, no_table_complete, verdict-complete, verdict-table, Taken, check-answered}
+use Rattle.tables.proofs.CheckLaws.{missed_exactly, no_table_complete, verdict-complete, verdict-table, IsTaken, check-answered}
+use Rattle.reader.specs.Answers.{outcome}
 
 -- Where all names that store the hash belong to the run from a number on, the run's names that store it are all names from there on that do.
 module _ (i : NameIndex) (hash_of : ℕ → ℕ) (bucket hash : ℕ) where
@@ -125,18 +124,18 @@ module _ (order : RunTimeEndian) (s : List ℕ) (i : NameIndex) where
       reached false e = absurd (no_members name (missed_names order s i) (ap length nothing) ((missed_exactly order s i name).1 (below, e)))
 
   -- what the check says where it says complete
-  pub check-complete : table_check order s i ≡ answered complete → Taken order s i × (missed_names order s i ≡ [])
+  pub check-complete : table_check order s i ≡ answered TableCheck.Complete → IsTaken order s i × (missed_names order s i ≡ [])
   check-complete e =
       ⊎_elim
       (λ (no-buckets, same). absurd (no_table_complete same))
       (λ (taken, said). (taken, verdict-complete _ (missed_names order s i) said))
-      (check-answered order s i complete e)
+      (check-answered order s i TableCheck.Complete e)
 
   -- what linked steps list up to the first end
   abbrev given_by : NameHashIter → ℕ → Type 0
-  given_by c hash = hash_outcome (HashRead.Value c) ≡ find_by_hash order s i hash
+  given_by c hash = outcome (Ok c) ≡ find_by_hash order s i hash
 
-  pub steps_name : (hash : ℕ) (c : NameHashIter) (steps : List NameHashStep) → given_by c hash → Linked hash_step_of (hash_step order s i) c steps → has_end (hash_answers steps) ≡ true
+  pub steps_name : (hash : ℕ) (c : NameHashIter) (steps : List (Taken NameTableIndex NameHashIter)) → given_by c hash → Linked (hash_step order s i) c steps → has_end (hash_answers steps) ≡ true
       → up_to_end (hash_answers steps) ≡ hash_names (names_of_hash order s i hash)
   steps_name hash c steps given linked ended =
       let (same, end) = hash-lookups order s i hash c steps given linked in
@@ -144,8 +143,8 @@ module _ (order : RunTimeEndian) (s : List ℕ) (i : NameIndex) where
       same ∙ take_all (length (hash_answers steps)) (hash_names (names_of_hash order s i hash)) (omega arith)
 
   -- in such a table each lookup gives a cursor, and its steps reach an end
-  pub lookup_ends : Taken order s i → (hash : ℕ)
-      → (c : NameHashIter) × given_by c hash × ((steps : List NameHashStep) × Linked hash_step_of (hash_step order s i) c steps × (has_end (hash_answers steps) ≡ true))
+  pub lookup_ends : IsTaken order s i → (hash : ℕ)
+      → (c : NameHashIter) × given_by c hash × ((steps : List (Taken NameTableIndex NameHashIter)) × Linked (hash_step order s i) c steps × (has_end (hash_answers steps) ≡ true))
   unfolding find_by_hash
   lookup_ends taken hash =
       let below = bucket-below i hash taken.buckets in
@@ -157,7 +156,7 @@ module _ (order : RunTimeEndian) (s : List ℕ) (i : NameIndex) where
       (c, given, (steps, linked, hashes_have_end order s i hash c steps given linked (omega arith)))
 
   -- a complete table lists all names of each hash
-  complete-lists : table_check order s i ≡ answered complete → (hash : ℕ) → ListsAll order s i hash
+  complete-lists : table_check order s i ≡ answered TableCheck.Complete → (hash : ℕ) → ListsAll order s i hash
   complete-lists e hash =
       let (taken, nothing) = check-complete e in
       let (c, given, reaches) = lookup_ends taken hash in
@@ -174,8 +173,8 @@ module _ (order : RunTimeEndian) (s : List ℕ) (i : NameIndex) where
 
   -- the names back from the answers
   shown : Outcome (Option NameTableIndex) → ℕ
-  shown (answered (some name)) = name.0
-  shown (answered none) = 0
+  shown (answered (Some name)) = name.0
+  shown (answered None) = 0
   shown (refused n v) = 0
 
   names_back : (names : List ℕ) → map shown (hash_names names) ≡ names
@@ -226,7 +225,7 @@ module _ (order : RunTimeEndian) (s : List ℕ) (i : NameIndex) where
         (λ name h l. let below : name < i.name_count = omega arith in
         ap not (lists_reach name below (all (stored_hash order s (parts i) name) (hash-below bytes fits buckets name below))))
 
-    lists-complete : table_check order s i ≡ answered complete
+    lists-complete : table_check order s i ≡ answered TableCheck.Complete
     unfolding table_check verdict
     lists-complete =
         let (short, fits, below, inside) = lists-inside 0 (all 0 (omega arith)) in
@@ -234,18 +233,18 @@ module _ (order : RunTimeEndian) (s : List ℕ) (i : NameIndex) where
         rw (fitted-fits s i short fits, ne_eqb i.bucket_count 0 (λ e. omega (arith, e)), none_above, nothing fits buckets)
 
 -- so the names of each hash in a complete table are all names that store it
-pub complete-names : (order : RunTimeEndian) (s : List ℕ) (i : NameIndex) → table_check order s i ≡ answered complete → (0 < i.bucket_count) × ((hash : ℕ) → names_of_hash order s i hash ≡ all_storing order s i hash)
+pub complete-names : (order : RunTimeEndian) (s : List ℕ) (i : NameIndex) → table_check order s i ≡ answered TableCheck.Complete → (0 < i.bucket_count) × ((hash : ℕ) → names_of_hash order s i hash ≡ all_storing order s i hash)
 complete-names order s i e =
     let (taken, nothing) = check-complete order s i e in
     (taken.buckets, names-all order s i (none_missed order s i nothing))
 
 -- and an index that the check says has no table has no buckets
-pub no_table_buckets : (order : RunTimeEndian) (s : List ℕ) (i : NameIndex) → table_check order s i ≡ answered no_table → i.bucket_count ≡ 0
+pub no_table_buckets : (order : RunTimeEndian) (s : List ℕ) (i : NameIndex) → table_check order s i ≡ answered TableCheck.NoTable → i.bucket_count ≡ 0
 no_table_buckets order s i e =
     ⊎_elim
     (λ (no-buckets, same). no-buckets)
     (λ (taken, said). absurd (verdict-table _ (missed_names order s i) said))
-    (check-answered order s i no_table e)
+    (check-answered order s i TableCheck.NoTable e)
 
 pub complete_exactly : CompleteExactly
 complete_exactly order s i bytes small = (λ e hash below. complete-lists order s i (sym e) hash, λ all. sym (lists-complete order s i bytes small all))

@@ -16,10 +16,12 @@ use Rattle.index.specs.Layout.{parts}
 use Rattle.hashes.specs.Table.{stored_hash, names_from, names_of_hash}
 use Rattle.tables.specs.declared.Incomplete.{Incomplete}
 use Rattle.tables.specs.declared.TableCheck.{TableCheck}
-use Rattle.tables.specs.Check.{incomplete, check_outcome, is_missed, missed_names, verdict, table_check}
+use Rattle.tables.specs.Check.{is_missed, missed_names, verdict, table_check}
 use Rattle.tables.specs.Sanity.{MissedTold, LostLeast, LostNotListed}
-use Rattle.tables.proofs.CheckLaws.{missed_exactly, Taken, check-answered}
+use Rattle.tables.proofs.CheckLaws.{missed_exactly, IsTaken, check-answered}
 use Rattle.tables.proofs.CompleteLaws.{check-complete, no_table_buckets, steps_name, stores_own, listed-run, lookup_ends}
+use Rattle.reader.specs.Answers.{outcome}
+use Rattle.std.specs.Prelude.{Ok, Err}
 
 module _ (order : RunTimeEndian) (s : List ℕ) (i : NameIndex) where
   -- the first of the missed names is among them, and none of them has a smaller number
@@ -35,7 +37,7 @@ module _ (order : RunTimeEndian) (s : List ℕ) (i : NameIndex) where
       not_below other none h false most = ltb-false other name most
 
   -- what the verdict names: the first of these names
-  verdict-names : (lost : Incomplete) (names : List ℕ) → verdict (stored_hash order s (parts i)) names ≡ incomplete lost
+  verdict-names : (lost : Incomplete) (names : List ℕ) → verdict (stored_hash order s (parts i)) names ≡ TableCheck.Incomplete lost
       → (more : List ℕ) × (names ≡ lost.name.0 ∷ more) × (lost.missed ≡ length names) × (lost.hash ≡ stored_hash order s (parts i) lost.name.0)
   unfolding verdict
   verdict-names lost [] said = let z : ◌≡◌ {A = ℕ} 0 1 = cc in absurd (omega arith)
@@ -45,21 +47,21 @@ module _ (order : RunTimeEndian) (s : List ℕ) (i : NameIndex) where
       rw (sym same) (more, refl, refl, refl)
 
   -- what the check has found where it answers incomplete
-  incomplete-found : (lost : Incomplete) → check_outcome (TableCheck.Incomplete lost) ≡ table_check order s i
-      → Taken order s i × (verdict (stored_hash order s (parts i)) (missed_names order s i) ≡ incomplete lost)
+  incomplete-found : (lost : Incomplete) → outcome (Ok (TableCheck.Incomplete lost)) ≡ table_check order s i
+      → IsTaken order s i × (verdict (stored_hash order s (parts i)) (missed_names order s i) ≡ TableCheck.Incomplete lost)
   incomplete-found lost e =
       ⊎_elim
       (λ (no-buckets, same). let z : ◌≡◌ {A = ℕ} 0 1 = cc in absurd (omega arith))
       (λ found. found)
-      (check-answered order s i (incomplete lost) (sym e))
+      (check-answered order s i (TableCheck.Incomplete lost) (sym e))
 
 pub missed_told : MissedTold
-missed_told order s i name TableCheck.NoTable buckets missed e = absurd (omega (arith, no_table_buckets order s i (sym e)))
-missed_told order s i name TableCheck.Complete buckets missed e =
+missed_told order s i name (Ok TableCheck.NoTable) buckets missed e = absurd (omega (arith, no_table_buckets order s i (sym e)))
+missed_told order s i name (Ok TableCheck.Complete) buckets missed e =
     let (taken, nothing) = check-complete order s i (sym e) in
     absurd (no_members name (missed_names order s i) (ap length nothing) missed)
-missed_told order s i name (TableCheck.Incomplete lost) buckets missed e = inl (lost, refl)
-missed_told order s i name (TableCheck.Refused why) buckets missed e = inr (why, refl)
+missed_told order s i name (Ok (TableCheck.Incomplete lost)) buckets missed e = inl (lost, refl)
+missed_told order s i name (Err why) buckets missed e = inr (why, refl)
 
 pub lost_least : LostLeast
 lost_least order s i lost e =

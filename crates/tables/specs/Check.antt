@@ -2,28 +2,12 @@
 -- counted from 0, as in gimli; DWARF 5 counts them from 1, and so does the start that is stored for a bucket.
 use Rattle.std.specs.Prelude.{ℕ, ◌+◌, Bool, not, cond, List, [], ◌∷◌, length, ltb, eqb}
 use Rattle.reader.specs.Outcome.{Outcome, answered, ◌>>=◌, ◌>>◌, refuse_if}
-use Rattle.reader.specs.Errors.{refusal}
 use Rattle.reader.specs.declared.endianity.RunTimeEndian.{RunTimeEndian}
 use Rattle.index.specs.declared.layout.NameIndex.{NameIndex}
 use Rattle.index.specs.Layout.{parts, fitted}
 use Rattle.reader.specs.Lists.{numbers_from, filterb, memberb}
 use Rattle.hashes.specs.Table.{stored_start, stored_hash, bucket_of, names_from, run}
-use Rattle.tables.specs.declared.Incomplete.{Incomplete}
 use Rattle.tables.specs.declared.TableCheck.{TableCheck}
-
--- what the check says
-pub data Checked : Type 0 where
-  no_table : Checked
-  complete : Checked
-  -- with how many names are missed, the smallest of their numbers, and the hash that is stored for the name of that number
-  incomplete : Incomplete → Checked
-
--- the outcome that the code's answer stands for
-abbrev pub check_outcome : TableCheck → Outcome Checked
-check_outcome TableCheck.NoTable = answered no_table
-check_outcome TableCheck.Complete = answered complete
-check_outcome (TableCheck.Incomplete lost) = answered (incomplete lost)
-check_outcome (TableCheck.Refused e) = refusal e
 
 -- Whether a bucket's start is above N + 1, and whether some bucket has such a start. Document 01 refuses at the lowest of these; which one that is makes
 -- no difference, since the refusal is the same. A start of N + 1 is one past the last name, and no refusal in gimli.
@@ -42,15 +26,15 @@ unfoldable pub missed_names : RunTimeEndian → List ℕ → NameIndex → List 
 missed_names order s i = filterb (is_missed order s i) (names_from i 0)
 
 -- complete where no name is missed; else how many are, the first of them, which has the smallest number, and the hash that is stored for it
-unfoldable pub verdict : (ℕ → ℕ) → List ℕ → Checked
-verdict hash_of [] = complete
-verdict hash_of (name ∷ more) = incomplete (record { missed = length (name ∷ more); name = record { 0 = name }; hash = hash_of name })
+unfoldable pub verdict : (ℕ → ℕ) → List ℕ → TableCheck
+verdict hash_of [] = TableCheck.Complete
+verdict hash_of (name ∷ more) = TableCheck.Incomplete (record { missed = length (name ∷ more); name = record { 0 = name }; hash = hash_of name })
 
-unfoldable pub table_check : RunTimeEndian → List ℕ → NameIndex → Outcome Checked
+unfoldable pub table_check : RunTimeEndian → List ℕ → NameIndex → Outcome TableCheck
 table_check order s i = do
   p ← fitted s i
   cond (eqb i.bucket_count 0)
-      (answered no_table)
+      (answered TableCheck.NoTable)
       (do
         refuse_if (any_above i.name_count (stored_start order s p) i.bucket_count) 1 p.hash_table_data
         answered (verdict (stored_hash order s p) (missed_names order s i)))

@@ -1,23 +1,22 @@
 -- What is proved of the missed names and of the table check's answers: document 02, No. 2. The laws `missed_exactly` and `told_as_before` of
 -- proofs/CheckLaws.antt and those of proofs/LostLaws.antt prove it.
-use Rattle.std.specs.Prelude.{ℕ, ◌≤◌, ◌<◌, ◌≡◌, true, false, cond, ◌↔◌, ◌⊎◌, List, length, eqb}
+use Rattle.std.specs.Prelude.{ℕ, ◌≤◌, ◌<◌, ◌≡◌, true, false, cond, ◌↔◌, ◌⊎◌, List, length, eqb, Ok, Err, Result}
 use Rattle.reader.specs.Outcome.{Outcome, answered, ◌>>=◌, ◌>>◌, refuse_if}
 use Rattle.reader.specs.Lists.{memberb}
-use Rattle.reader.specs.Steps.{Linked, has_end, up_to_end}
+use Rattle.reader.specs.Steps.{Linked, has_end, up_to_end, Taken}
 use Rattle.reader.specs.declared.endianity.RunTimeEndian.{RunTimeEndian}
 use Rattle.reader.specs.declared.error.Error.{Error}
 use Rattle.index.specs.declared.layout.NameIndex.{NameIndex}
 use Rattle.index.specs.Layout.{parts, fitted}
 use Rattle.hashes.specs.declared.hash.NameHashIter.{NameHashIter}
-use Rattle.hashes.specs.declared.hash.HashRead.{HashRead}
-use Rattle.hashes.specs.declared.hash.NameHashStep.{NameHashStep}
 use Rattle.hashes.specs.Table.{stored_start, stored_hash, bucket_of, run, all_storing}
 use Rattle.hashes.specs.Lookups.{find_by_hash, hash_step}
-use Rattle.hashes.specs.Answers.{hash_outcome, hash_step_of}
 use Rattle.hashes.specs.Demand3.{hash_answers, hash_names}
 use Rattle.tables.specs.declared.Incomplete.{Incomplete}
 use Rattle.tables.specs.declared.TableCheck.{TableCheck}
-use Rattle.tables.specs.Check.{Checked, no_table, complete, incomplete, check_outcome, any_above, missed_names, table_check}
+use Rattle.tables.specs.Check.{any_above, missed_names, table_check}
+use Rattle.reader.specs.Answers.{outcome}
+use Rattle.reader.specs.declared.common.NameTableIndex.{NameTableIndex}
 
 -- The missed names are the names of the index that the run of their own bucket does not reach, and no other number. That each stands once is plain
 -- from the definition: they are picked from 0, 1 and on, below N.
@@ -32,10 +31,10 @@ pub data Told : Type 0 where
   all-reached : Told
   missing : ℕ → Told
 
-abbrev pub told_by : Checked → Told
-told_by no_table = no_hash_table
-told_by complete = all-reached
-told_by (incomplete lost) = missing lost.missed
+abbrev pub told_by : TableCheck → Told
+told_by TableCheck.NoTable = no_hash_table
+told_by TableCheck.Complete = all-reached
+told_by (TableCheck.Incomplete lost) = missing lost.missed
 
 -- document 01's check, in the order of its words: complete if 0 names are missed
 abbrev pub told_of : ℕ → Told
@@ -58,15 +57,15 @@ ToldAsBefore = (order : RunTimeEndian) (s : List ℕ) (i : NameIndex) → (table
 -- Where a name of an index with a hash table is missed, the check says so, or refuses.
 abbrev pub MissedTold : Type 0
 MissedTold =
-    (order : RunTimeEndian) (s : List ℕ) (i : NameIndex) (name : ℕ) (r : TableCheck)
-    → 0 < i.bucket_count → memberb name (missed_names order s i) ≡ true → check_outcome r ≡ table_check order s i
-    → ((lost : Incomplete) × (r ≡ TableCheck.Incomplete lost)) ⊎ ((e : Error) × (r ≡ TableCheck.Refused e))
+    (order : RunTimeEndian) (s : List ℕ) (i : NameIndex) (name : ℕ) (r : Result TableCheck Error)
+    → 0 < i.bucket_count → memberb name (missed_names order s i) ≡ true → outcome r ≡ table_check order s i
+    → ((lost : Incomplete) × (r ≡ Ok (TableCheck.Incomplete lost))) ⊎ ((e : Error) × (r ≡ Err e))
 
 -- Where it says incomplete: `missed` is how many names are missed; `name` is one of them, and none of them has a smaller number; and
 -- `hash` is the one that is stored for it.
 abbrev pub LostLeast : Type 0
 LostLeast =
-    (order : RunTimeEndian) (s : List ℕ) (i : NameIndex) (lost : Incomplete) → check_outcome (TableCheck.Incomplete lost) ≡ table_check order s i
+    (order : RunTimeEndian) (s : List ℕ) (i : NameIndex) (lost : Incomplete) → outcome (Ok (TableCheck.Incomplete lost)) ≡ table_check order s i
     → (lost.missed ≡ length (missed_names order s i))
     × (memberb lost.name.0 (missed_names order s i) ≡ true)
     × ((name : ℕ) → memberb name (missed_names order s i) ≡ true → lost.name.0 ≤ name)
@@ -77,14 +76,14 @@ LostLeast =
 abbrev pub ListsWithout : RunTimeEndian → List ℕ → NameIndex → ℕ → ℕ → Type 0
 ListsWithout order s i hash name =
     (c : NameHashIter)
-    × (hash_outcome (HashRead.Value c) ≡ find_by_hash order s i hash)
-    × ((steps : List NameHashStep) × Linked hash_step_of (hash_step order s i) c steps × (has_end (hash_answers steps) ≡ true))
-    × ((steps : List NameHashStep) → Linked hash_step_of (hash_step order s i) c steps → has_end (hash_answers steps) ≡ true
+    × (outcome (Ok c) ≡ find_by_hash order s i hash)
+    × ((steps : List (Taken NameTableIndex NameHashIter)) × Linked (hash_step order s i) c steps × (has_end (hash_answers steps) ≡ true))
+    × ((steps : List (Taken NameTableIndex NameHashIter)) → Linked (hash_step order s i) c steps → has_end (hash_answers steps) ≡ true
     → (names : List ℕ) × (up_to_end (hash_answers steps) ≡ hash_names names) × (memberb name names ≡ false))
 
 -- So a lookup that stops at the first end does not find the name: it is one of all names that store the hash, and the lookup of the hash lists names
 -- without it.
 abbrev pub LostNotListed : Type 0
 LostNotListed =
-    (order : RunTimeEndian) (s : List ℕ) (i : NameIndex) (lost : Incomplete) → check_outcome (TableCheck.Incomplete lost) ≡ table_check order s i
+    (order : RunTimeEndian) (s : List ℕ) (i : NameIndex) (lost : Incomplete) → outcome (Ok (TableCheck.Incomplete lost)) ≡ table_check order s i
     → (memberb lost.name.0 (all_storing order s i lost.hash) ≡ true) × ListsWithout order s i lost.hash lost.name.0

@@ -1,44 +1,21 @@
--- `tables::any_above` meets its contract: whether a start is too high from a bucket on is decided by that bucket or by those after it (`above_step`), and each turn leaves one bucket fewer.
-use mathlib.Core.Path.{refl}
+-- `any` answers whether some bucket of the range passes the test, which is the definition (`any_of_range`).
+use mathlib.Core.Path.{◌∙◌, refl}
+use borrow.Author.Tests.{tests}
 use native.Mathlib.Omega.{arith}
-use Rattle.tables.proofs.CheckLaws.{above_first, above_step}
-use borrow.Author.Tests.{le-ltb, lt-ltb}
+use Prim.Native.Nat.{◌+◌}
+use Rattle.std.proofs.Common.{rules}
+use Rattle.std.proofs.lemmas.Iterator.{YieldsList-from_range}
+use Rattle.std.proofs.lemmas.Iterator.Search.{any_from_yields_List}
+use lib.Dec.{ltb}
+use Rattle.hashes.specs.Table.{nth_of}
+use Rattle.tables.proofs.CheckLaws.{any_of_range}
 use Rattle.tables.proofs.any_above.Goals as goal
-
-pub loop-bucket-init : goal.loop-bucket-init
-loop-bucket-init c = (refl, above_first _ _ _)
-
-pub returns-then-last-start : goal.returns-then-last-start
-returns-then-last-start c =
-    rw (
-      c.loop-bucket.invariant.1,
-      above_step,
-      lt-ltb _ _ c.loop-bucket-test.true,
-      ← c.nth_u32-start.ensures,
-      ← c.loop-bucket.invariant.0,
-      lt-ltb _ _ c.if-last-start.true,
-    )
-
-pub loop-bucket-smaller : goal.loop-bucket-smaller
-loop-bucket-smaller c = omega arith
-
-pub loop-bucket-preserved : goal.loop-bucket-preserved
-loop-bucket-preserved c = (
-  c.loop-bucket.invariant.0,
-  rw (
-    c.loop-bucket.invariant.1,
-    above_step,
-    lt-ltb _ _ c.loop-bucket-test.true,
-    ← c.nth_u32-start.ensures,
-    ← c.loop-bucket.invariant.0,
-    le-ltb _ _ c.if-last-start.false,
-  ),
-)
 
 pub returns : goal.returns
 returns c =
-    rw (
-      c.loop-bucket.invariant.1,
-      above_step,
-      le-ltb _ _ c.loop-bucket-test.false,
-    )
+    let a = c.args in
+    any_from_yields_List (λ bucket. ltb (a.names + 1) (nth_of a.order a.section.now a.starts bucket)) _ _ _
+    c.any.ensures.ran
+    (YieldsList-from_range 0 a.buckets a.buckets refl (omega arith))
+    (λ x b q k. search (rules, tests))
+    ∙ any_of_range a.names (nth_of a.order a.section.now a.starts) a.buckets

@@ -1,11 +1,13 @@
--- `tables::first_missed` meets its contract: each turn passes a name that its segment says is reached (`searching_next`); the first that is not, is the
--- first missed name (`searching_found`), and where there is none all names are passed (`searching_end`).
-use Prim.Native.Nat.{◌-◌}
-use Rattle.tables.proofs.CheckLaws.{Searching}
+-- Each turn passes a name that its segment says is reached (`missed_here`), so that no name before is missed.
+use mathlib.Core.Path.{◌≡◌}
+use Rattle.index.specs.Layout.{parts}
+use Rattle.tables.specs.Check.{missed_names}
+use Rattle.tables.proofs.CheckLaws.{walked, missed_from}
 use Rattle.tables.proofs.first_missed.Given as goal
 
 abbrev pub invariant-loop-name : goal.invariant-loop-name
-invariant-loop-name l = Searching l.order l.section l.index l.starts l.hashes l.segment l.name
-
-abbrev pub decreases-loop-name : goal.decreases-loop-name
-decreases-loop-name l = l.index.name_count - l.name
+invariant-loop-name l =
+    (l.starts ≡ (parts l.index).bucket_data)
+    × (l.hashes ≡ (parts l.index).hash_table_data)
+    × (l.segment ≡ walked l.order l.section l.index l.name)
+    × (missed_names l.order l.section l.index ≡ missed_from l.order l.section l.index l.name)

@@ -1,62 +1,38 @@
--- `attributes::facts::read_facts` meets its contract: what is left to read adds to the facts that were kept (`facts_step`), at first to none, and each pair takes a byte.
-use Rattle.attributes.proofs.AttributeLaws.{facts-start, facts_step}
-use Rattle.abbreviations.proofs.AbbreviationLaws.{pair-forward}
+-- What is left to read adds to the facts that were kept (`facts_step`), at first to none, and each pair takes a byte.
 use mathlib.Core.Path.{sym}
+use Rattle.std.proofs.Common.{rules}
 use native.Mathlib.Omega.{arith}
-use borrow.Author.Tests.{eq-eqb, ne_eqb}
+use borrow.Author.Tests.{ne_eqb}
+use Rattle.abbreviations.proofs.AbbreviationLaws.{pair_forward}
+use Rattle.attributes.proofs.AttributeLaws.{facts_start, facts_step}
 use Rattle.attributes.proofs.facts.read_facts.Goals as goal
 
-pub loop-r-init : goal.loop-r-init
-loop-r-init c = rw c.no_facts-facts.ensures (facts-start _ _ _ _ _ _)
+pub loop-a-init : goal.loop-a-init
+loop-a-init c = facts_start c.default-facts.result _ _ _ _ _ _ c.default-facts.ensures
 
-pub returns-in-Refused : goal.returns-in-Refused
-returns-in-Refused c =
+pub returns-in_err-v : goal.returns-in_err-v
+returns-in_err-v c =
     rw (
-      c.loop-r.invariant,
+      c.loop-a.invariant,
       facts_step,
-      ← c.read_attribute.ensures,
-      c.in-Refused.is,
-    )
-
-pub returns-then-a-eq0 : goal.returns-then-a-eq0
-returns-then-a-eq0 c =
-    rw (
-      c.loop-r.invariant,
-      facts_step,
-      ← c.read_attribute.ensures,
-      c.in-Value.is,
-      eq-eqb _ _ c.if-a-eq0.true,
-    )
-
-pub returns-in-Refused-read_debug_names_form_value : goal.returns-in-Refused-read_debug_names_form_value
-returns-in-Refused-read_debug_names_form_value c =
-    rw (
-      c.loop-r.invariant,
-      facts_step,
-      ← c.read_attribute.ensures,
-      c.in-Value.is,
+      ← c.in_ok-a.ensures,
       ne_eqb _ _ c.if-a-eq0.false,
-      ← c.read_debug_names_form_value.ensures,
-      c.in-Refused-read_debug_names_form_value.is,
+      ← c.in_err-v.ensures,
     )
+    (search rules)
 
-pub loop-r-smaller : goal.loop-r-smaller
-loop-r-smaller c =
+pub loop-a-smaller : goal.loop-a-smaller
+loop-a-smaller c =
     let a = c.args in
-    let l = c.loop-r in
-    let read = rw c.in-Value.is at c.read_attribute.ensures in
-    omega (arith, pair-forward a.s.now l.pair a.pairs_end _ (sym read))
+    omega (arith, pair_forward a.s.now c.loop-a.pair a.pairs_end _ (sym c.in_ok-a.ensures))
 
-pub loop-r-preserved : goal.loop-r-preserved
-loop-r-preserved c =
+pub loop-a-preserved : goal.loop-a-preserved
+loop-a-preserved c =
     rw (
-      c.loop-r.invariant,
+      c.loop-a.invariant,
       facts_step,
-      ← c.read_attribute.ensures,
-      c.in-Value.is,
+      ← c.in_ok-a.ensures,
       ne_eqb _ _ c.if-a-eq0.false,
-      ← c.read_debug_names_form_value.ensures,
-      c.in-Value-read_debug_names_form_value.is,
-      ← c.keep_attribute.ensures,
-      ← c.keep-facts.ensures,
+      ← c.in_ok-v.ensures,
+      ← c.keep.ensures,
     )

@@ -5,8 +5,8 @@ use mathlib.Core.Path.{◌≡◌}
 use Rattle.attributes.specs.Attributes.{facts_read}
 use Rattle.attributes.proofs.facts.read_facts.Given as goal
 
-abbrev pub invariant-loop-r : goal.invariant-loop-r
-invariant-loop-r l = facts_read l.order l.s l.pairs l.pairs_end l.at l.end ≡ facts_from l.facts l.order l.s l.pair l.pairs_end l.place l.end
+abbrev pub invariant-loop-a : goal.invariant-loop-a
+invariant-loop-a l = facts_read l.order l.s l.pairs l.pairs_end l.at l.end ≡ facts_from l.facts l.order l.s l.pair l.pairs_end l.place l.end
 
-abbrev pub decreases-loop-r : goal.decreases-loop-r
-decreases-loop-r l = left_at l.s l.pair l.pairs_end
+abbrev pub decreases-loop-a : goal.decreases-loop-a
+decreases-loop-a l = left_at l.s l.pair l.pairs_end

@@ -1,8 +1,7 @@
--- `index_query::matching::next_match` meets its contract: the names that match from a number on are decided by the next candidate or by those after it (`matches_name`), and each turn leaves one candidate fewer.
+-- The names that match from a number on are decided by the next candidate or by those after it (`matches_name`), and each turn leaves one candidate fewer.
 use mathlib.Core.Path.{◌≡◌}
 use lib.ListN.{length}
 use Rattle.index_query.specs.Candidates.{candidates_from}
-use Rattle.index_query.specs.Records.{matches_at}
 use Rattle.index_query.specs.Records.{matches_at}
 use Rattle.index_query.proofs.matching.next_match.Given as goal
 
