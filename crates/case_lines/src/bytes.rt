@@ -1,5 +1,5 @@
 // The bytes of a part.
-use crate::{Numbers, letter};
+use crate::Numbers;
 
 // The bytes of a section, and zeros behind them.
 pub type Bytes = [u8; 512];
@@ -16,7 +16,7 @@ impl Reading {
     // may stand behind those of each line.
     fn section(&mut self, text: &[u8], to: &mut Bytes) {
         for (n, line) in text.split(|b| *b == b'\n').enumerate() {
-            if 0 < n && letter(line, 0) != b' ' {
+            if 0 < n && !line.starts_with(b" ") {
                 return;
             }
             for byte in line.iter().take_while(|b| **b != b'#') {
@@ -81,7 +81,7 @@ pub fn named(text: &[u8], name: u8) -> &[u8] {
 }
 
 // Puts the bytes of the changes at their places.
-pub fn changed(to: &mut Bytes, changes: Numbers) {
+pub fn change(to: &mut Bytes, changes: Numbers) {
     for change in changes.values.chunks_exact(2) {
         if let [Some(place), Some(value)] = change
             && let Some(byte) = to.get_mut(*place as usize)

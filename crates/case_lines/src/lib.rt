@@ -15,68 +15,101 @@
 mod bytes; // the bytes of a part
 mod numbers; // the numbers of a part
 
-pub use bytes::{Bytes, bytes_of, changed, first, named};
+pub use bytes::Bytes;
 pub use numbers::{Numbers, numbers_of};
 use reader::{Format, RunTimeEndian};
+use std::io;
 
-// The case that begins at a place of the text; nothing where no line begins there. What is no case has a first letter that no program knows.
-pub fn case_at(text: &[u8], at: usize) -> &[u8] {
-    if 0 < at && letter(text, at - 1) != b'\n' {
-        return b"";
+// A case: the text, which says what the names of sections stand for, and its line.
+#[derive(Clone, Copy)]
+pub struct Case<'a> {
+    text: &'a [u8],
+    line: &'a [u8],
+}
+
+// Does something with each case of a text, up to the first that fails.
+pub fn each<'a, F: FnMut(Case<'a>) -> io::Result<()> + Drop>(
+    text: &'a [u8],
+    mut one: F,
+) -> io::Result<()>
+    requires { F.IsAlwaysCallable one }
+{
+    for line in text.split(|b| *b == b'\n') {
+        let case = Case { text, line };
+        match case.letter(0) {
+            b'#' | b'=' | b' ' => {}
+            _ => one(case)?,
+        }
     }
-    between(text, at, find(text, b'\n', at, 0))
+    Ok(())
 }
 
-// The place of a byte behind so many others of its kind, from a place on; the end of the text where there is none.
-pub fn find(text: &[u8], byte: u8, from: usize, others: usize) -> usize {
-    text.iter()
-        .enumerate()
-        .skip(from)
-        .filter(|(_, b)| **b == byte)
-        .nth(others)
-        .map_or(text.len(), |(at, _)| at)
-}
-
-// The text from a place to another; nothing where it has no such part.
-pub fn between(text: &[u8], from: usize, end: usize) -> &[u8] {
-    text.get(from..end).unwrap_or(b"")
-}
-
-// The byte at a place, or a space where there is none.
-pub fn letter(text: &[u8], at: usize) -> u8 {
-    text.get(at).copied().unwrap_or(b' ')
-}
-
-// The part behind so many semicolons, without the space before it.
-pub fn part(line: &[u8], number: usize) -> &[u8] {
-    let part = line.split(|b| *b == b';').nth(number).unwrap_or(b"");
-    if number == 0 {
-        return part;
+impl<'a> Case<'a> {
+    // The whole line.
+    pub fn line(self) -> &'a [u8] {
+        self.line
     }
-    part.strip_prefix(b" ").unwrap_or(part)
-}
 
-// The name of a case, which stands behind its letters and a space.
-pub fn title(line: &[u8]) -> &[u8] {
-    part(line, 0)
-        .splitn(2, |b| *b == b' ')
-        .nth(1)
-        .unwrap_or(b"")
-}
-
-// The byte order, and the format, that a letter stands for: B for big-endian, 6 for 64-bit. (Of types of another crate, so no `From`.)
-pub fn order_of(letter: u8) -> RunTimeEndian {
-    if letter == b'B' {
-        RunTimeEndian::Big
-    } else {
-        RunTimeEndian::Little
+    // The letter at a position, or a space where there is none.
+    pub fn letter(self, position: usize) -> u8 {
+        self.line.get(position).copied().unwrap_or(b' ')
     }
-}
 
-pub fn format_of(letter: u8) -> Format {
-    if letter == b'6' {
-        Format::Dwarf64
-    } else {
-        Format::Dwarf32
+    // The part behind so many semicolons, without the space before it.
+    pub fn part(self, number: usize) -> &'a [u8] {
+        let part = self.line.split(|b| *b == b';').nth(number).unwrap_or(b"");
+        if number == 0 {
+            return part;
+        }
+        part.strip_prefix(b" ").unwrap_or(part)
+    }
+
+    // The name of the case, which stands behind its letters and a space.
+    pub fn title(self) -> &'a [u8] {
+        self.part(0).splitn(2, |b| *b == b' ').nth(1).unwrap_or(b"")
+    }
+
+    // The numbers of a part.
+    pub fn numbers(self, part: usize) -> Numbers {
+        numbers_of(self.part(part))
+    }
+
+    // The byte order that the second letter stands for: B for big-endian.
+    pub fn order(self) -> RunTimeEndian {
+        if self.letter(1) == b'B' {
+            RunTimeEndian::Big
+        } else {
+            RunTimeEndian::Little
+        }
+    }
+
+    // The format that a letter stands for: 6 for 64-bit.
+    pub fn format(self, position: usize) -> Format {
+        if self.letter(position) == b'6' {
+            Format::Dwarf64
+        } else {
+            Format::Dwarf32
+        }
+    }
+
+    // The bytes of a part, with the changes of another.
+    pub fn changed<'b>(self, part: usize, changes: usize, to: &'b mut Bytes) -> &'b [u8] {
+        let count = bytes::bytes_of(self.text, self.part(part), to);
+        bytes::change(to, self.numbers(changes));
+        bytes::first(to, count)
+    }
+
+    // The bytes of a part.
+    pub fn bytes<'b>(self, part: usize, to: &'b mut Bytes) -> &'b [u8] {
+        let count = bytes::bytes_of(self.text, self.part(part), to);
+        bytes::first(to, count)
+    }
+
+    // The line that says what a name stands for.
+    pub fn named(self, name: u8) -> Case<'a> {
+        Case {
+            text: self.text,
+            line: bytes::named(self.text, name),
+        }
     }
 }

@@ -1,4 +1,6 @@
 // The numbers of a part.
+ghost use Rattle.std.specs.Prelude.{◌≤◌};
+
 use std::array;
 
 // The numbers of some text in their order, at most 24.
@@ -13,7 +15,14 @@ impl Numbers {
         self.values.get(position).copied().flatten().unwrap_or(0)
     }
 
-    // The same in 32 bits.
+    // How many there are. (There are never more than 24; `min` says so where they are added up.)
+    pub fn count(self) -> usize
+        ensures { result ≤ 24 }
+    {
+        self.values.iter().flatten().count().min(24)
+    }
+
+    // The number at a position in 32 bits.
     pub fn get32(self, position: usize) -> u32 {
         (self.get(position) % 4294967296) as u32
     }

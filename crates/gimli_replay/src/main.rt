@@ -6,13 +6,24 @@
 // and the section's length (2 bytes each), and the section's bytes.
 #![tactic(auto)]
 
-use leb128::read;
-use reader::{
-    DebugStrOffset, Format, RunTimeEndian, read_initial_length, read_number, read_u8, read_word,
-    skip, split,
-};
+use reader::RunTimeEndian;
 use std::io;
-use strings::DebugStr;
+
+// The words of the calls in the order of their numbers, which begin with 1, each with the letter of its reading.
+const CALLS: [(&[u8], u8); 12] = [
+    (b" u8", b'1'),
+    (b" u16", b'2'),
+    (b" u32", b'4'),
+    (b" u64", b'8'),
+    (b" word32", b'w'),
+    (b" word64", b'W'),
+    (b" length", b'n'),
+    (b" uleb128", b'u'),
+    (b" uleb128_u16", b'v'),
+    (b" skip", b's'),
+    (b" split", b'p'),
+    (b" str", b'z'),
+];
 
 // A call.
 #[derive(Clone, Copy)]
@@ -47,7 +58,7 @@ fn replay(rt: &impl Print, s: &[u8]) -> io::Result<()> {
         }
         print!(rt; "{number}")?;
         let Some(case) = first_case(rest) else {
-            return show::text(rt, b" is cut short\n");
+            return rt.write_all(b" is cut short\n");
         };
         answer(rt, case.call, case.section)?;
         rest = case.rest;
@@ -94,7 +105,7 @@ fn two_bytes(low: u8, high: u8) -> usize {
     u16::from_le_bytes([low, high]) as usize
 }
 
-// Makes the call and writes its answer. (A `match` on the number of the call, since each call takes other arguments.)
+// Makes the call, and writes its word and its answer.
 fn answer(rt: &impl Print, call: Call, s: &[u8]) -> io::Result<()> {
     let Call {
         op,
@@ -103,55 +114,10 @@ fn answer(rt: &impl Print, call: Call, s: &[u8]) -> io::Result<()> {
         end,
         arg,
     } = call;
-    match op {
-        1 => {
-            show::text(rt, b" u8")?;
-            show::number_read(rt, read_u8(s, at, end))
-        }
-        2 => {
-            show::text(rt, b" u16")?;
-            show::number_read(rt, read_number::<u16>(order, s, at, end))
-        }
-        3 => {
-            show::text(rt, b" u32")?;
-            show::number_read(rt, read_number::<u32>(order, s, at, end))
-        }
-        4 => {
-            show::text(rt, b" u64")?;
-            show::number_read(rt, read_number::<u64>(order, s, at, end))
-        }
-        5 => {
-            show::text(rt, b" word32")?;
-            show::word_read(rt, read_word(Format::Dwarf32, order, s, at, end))
-        }
-        6 => {
-            show::text(rt, b" word64")?;
-            show::word_read(rt, read_word(Format::Dwarf64, order, s, at, end))
-        }
-        7 => {
-            show::text(rt, b" length")?;
-            show::length_read(rt, read_initial_length(order, s, at, end))
-        }
-        8 => {
-            show::text(rt, b" uleb128")?;
-            show::number_read(rt, read::unsigned(s, at, end))
-        }
-        9 => {
-            show::text(rt, b" uleb128_u16")?;
-            show::number_read(rt, read::u16(s, at, end))
-        }
-        10 => {
-            show::text(rt, b" skip")?;
-            show::skipped(rt, skip(arg, s, at, end))
-        }
-        11 => {
-            show::text(rt, b" split")?;
-            show::part_read(rt, split(arg, s, at, end))
-        }
-        12 => {
-            show::text(rt, b" str")?;
-            show::str_read(rt, DebugStr::get_str(s, DebugStrOffset(arg)))
-        }
-        _ => show::text(rt, b" is no call\n"),
-    }
+    let Some((word, letter)) = CALLS.get((op as usize).wrapping_sub(1)).copied() else {
+        return rt.write_all(b" is no call\n");
+    };
+    rt.write_all(word)?;
+    case_calls::reading(rt, letter, order, s, at, end, arg)?;
+    rt.write_all(b"\n")
 }

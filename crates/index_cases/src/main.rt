@@ -1,23 +1,34 @@
 // Document 01's cases for headers, units, names and abbreviations, and document 02's for padding. The file stdin beside src/ has the cases, one
-// on each line, and the file stdout what the documents say, worked out by hand.
+// on each line, with what their letters and parts are; the file stdout has what the documents say, worked out by hand.
 #![tactic(auto)]
 
-mod calls; // the calls on an index, by name
-mod cases; // cases that a line of text describes
-mod cuts; // case A cut short
-mod header_steps; // header steps
-mod line; // the parts of a line of text
-mod misfits; // handles that may not fit
-mod print; // what is printed
-mod sections; // bytes and indexes
+mod answers; // the answers of a case
+mod calls; // calls on an index
 
+use case_lines::Case;
+use standard_input::read_full;
 use std::io;
 
 fn main(rt: HostRuntime) -> io::Result<()> {
-    let mut bytes = [0; 65536];
-    let len = standard_input::read_full(&rt, &mut bytes)?;
-    for line in bytes[..len].split(|b| *b == b'\n') {
-        cases::case(&rt, line)?;
+    let mut text = [0; 65536];
+    let len = read_full(&rt, &mut text)?;
+    case_lines::each(&text[..len], |case| one(&rt, case))
+}
+
+// A case: its section, with the bytes that it changes, and what is asked of it.
+fn one(rt: &impl Print, case: Case) -> io::Result<()> {
+    let mut bytes = [0; 512];
+    let section = case.changed(1, 3, &mut bytes);
+    match case.letter(0) {
+        b'i' | b'm' => calls::calls(rt, case, section),
+        b't' => answers::headers(rt, case, section),
+        b'v' => answers::names(rt, case, section),
+        b'h' => answers::opened(rt, case, section),
+        b'f' | b'x' | b'p' | b'n' | b'k' => answers::answer(rt, case, section),
+        b'w' => {
+            answers::table(rt, case, section)?;
+            answers::each(rt, case, section)
+        }
+        _ => answers::each(rt, case, section),
     }
-    Ok(())
 }

@@ -29,6 +29,19 @@ pub fn old() -> Record {
     }
 }
 
+// Whether a record kept all its contents.
+pub fn is_old(r: Record) -> bool {
+    let o = old();
+    r.unit_value == o.unit_value
+        && r.die_offset.0 == o.die_offset.0
+        && r.index_offset == o.index_offset
+        && r.entry_offset == o.entry_offset
+        && r.name.0 == o.name.0
+        && r.tag == o.tag
+        && r.unit_kind == o.unit_kind
+        && r.has_die_offset == o.has_die_offset
+}
+
 // What a query reads: a section in its byte order, and the .debug_str.
 #[derive(Clone, Copy)]
 pub struct Lent<'a> {

@@ -1,13 +1,13 @@
 // The hash table of an index: the names of each bucket, the names that store a hash, and the table check.
-use crate::tally::{Tally, line, steps};
+use crate::tally::{Tally, steps};
 use crate::units::asked;
-use hashes::{NameBucketIter, find_by_bucket, find_by_hash};
+use hashes::{find_by_bucket, find_by_hash};
 use index::{NameIndex, fit};
 use lent_records::Lent;
 use names::bucket_count;
 use reader::{read_number, skip};
 use std::io;
-use tables::{TableCheck, check_table};
+use tables::check_table;
 
 // No more steps than this are made of a cursor up to the first that gives no name; two more are made after that one.
 const STEPS: u32 = 8;
@@ -18,12 +18,8 @@ pub fn hash_table(rt: &impl Print, on: Lent, index: NameIndex, t: &mut Tally) ->
         bucket(rt, on, index, number, t)?;
     }
     lookups(rt, on, index, t)?;
-    table(rt, on, index, t)
-}
-
-// The number of the name before which a cursor stands.
-fn first(held: Option<NameBucketIter>) -> Option<[u64; 1]> {
-    held.map(|c| [c.name_table_index.0 as u64])
+    t.call(rt, b"table")?;
+    t.answer(rt, &check_table(on.order, on.section, index))
 }
 
 // The cursor of a bucket, and its steps.
@@ -34,21 +30,15 @@ fn bucket(
     number: u32,
     t: &mut Tally,
 ) -> io::Result<()> {
-    t.call_of(rt, b"find_by_bucket", number as u64)?;
     let r = find_by_bucket(on.order, on.section, index, number);
-    t.found(rt, r.map(first))?;
+    t.line(rt, b"find_by_bucket", number as u64, &r)?;
     let Ok(Some(mut cursor)) = r else {
         return Ok(());
     };
     steps(t, STEPS, 2, |t| {
-        t.call(rt, b"next_in_bucket")?;
         let next = cursor.next(on.order, on.section, index);
         cursor = next.cursor;
-        t.step(
-            rt,
-            next.answer
-                .map(|found| found.map(|f| [f.name.0 as u64, f.hash as u64])),
-        )
+        t.step(rt, b"next_in_bucket", &next.answer)
     })
 }
 
@@ -88,36 +78,14 @@ fn by_hash(
     let Some(hash) = hash else {
         return Ok(());
     };
-    t.call_of(rt, b"find_by_hash", hash as u64)?;
     let r = find_by_hash(on.order, on.section, index, hash);
-    t.found(rt, r.map(|c| first(c.bucket_iter)))?;
+    t.line(rt, b"find_by_hash", hash as u64, &r)?;
     let Ok(mut cursor) = r else {
         return Ok(());
     };
     steps(t, STEPS, 2, |t| {
-        t.call(rt, b"next_of_hash")?;
         let next = cursor.next(on.order, on.section, index);
         cursor = next.cursor;
-        t.step(
-            rt,
-            next.answer.map(|found| found.map(|name| [name.0 as u64])),
-        )
+        t.step(rt, b"next_of_hash", &next.answer)
     })
-}
-
-// The table check.
-fn table(rt: &impl Print, on: Lent, index: NameIndex, t: &mut Tally) -> io::Result<()> {
-    t.call(rt, b"table")?;
-    t.answer(
-        rt,
-        check_table(on.order, on.section, index),
-        |found| match found {
-            TableCheck::NoTable => show::text(rt, b" none\n"),
-            TableCheck::Complete => show::text(rt, b" complete\n"),
-            TableCheck::Incomplete(i) => {
-                show::text(rt, b" missed")?;
-                line(rt, &[i.missed as u64, i.name.0 as u64, i.hash as u64])
-            }
-        },
-    )
 }

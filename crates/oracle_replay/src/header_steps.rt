@@ -4,6 +4,7 @@ use crate::{hash_table, name_strings, pool, queries, table, units};
 use headers::{DebugNames, NameIndexHeader, NameIndexHeaderIter};
 use index::NameIndex;
 use lent_records::Lent;
+use show::{Show, Style};
 use std::io;
 
 // Steps up to the section's end, and the step there, which says end. After a refusal the cursor must be there too. A header has bytes, so that
@@ -30,12 +31,14 @@ fn step(
     *cursor = step.cursor;
     match step.answer {
         Ok(Some(h)) => {
-            header(rt, h, t)?;
+            t.call(rt, b"header")?;
+            h.show(rt, Style::Replay)?;
+            rt.write_all(b"\n")?;
             open(rt, on, h, t)
         }
         Ok(None) => {
             t.call(rt, b"end")?;
-            show::text(rt, b"\n")
+            rt.write_all(b"\n")
         }
         Err(e) => {
             t.count(b"header");
@@ -45,36 +48,13 @@ fn step(
     }
 }
 
-// What a header says.
-fn header(rt: &impl Print, h: NameIndexHeader, t: &mut Tally) -> io::Result<()> {
-    t.call(rt, b"header")?;
-    show::numbers(
-        rt,
-        &[
-            h.offset.0 as u64,
-            h.length as u64,
-            h.format.word_size() as u64,
-            h.version as u64,
-            h.compile_unit_count as u64,
-            h.local_type_unit_count as u64,
-            h.foreign_type_unit_count as u64,
-            h.bucket_count as u64,
-            h.name_count as u64,
-            h.abbrev_table_size as u64,
-        ],
-    )?;
-    match h.augmentation_string {
-        Some(a) => println!(rt; " {} {}", a.place, a.len),
-        None => show::text(rt, b" -\n"),
-    }
-}
-
 // The index of a header, and all calls on it.
 fn open(rt: &impl Print, on: Lent, h: NameIndexHeader, t: &mut Tally) -> io::Result<()> {
     t.call(rt, b"index")?;
-    match NameIndex::new(on.section, h) {
+    let opened = NameIndex::new(on.section, h);
+    match opened {
         Ok(i) => {
-            show::text(rt, b"\n")?;
+            rt.write_all(b"\n")?;
             units::units(rt, on, i, t)?;
             name_strings::strings(rt, on, i, t)?;
             table::abbreviations(rt, on.section, i, t)?;
@@ -82,6 +62,6 @@ fn open(rt: &impl Print, on: Lent, h: NameIndexHeader, t: &mut Tally) -> io::Res
             pool::entries(rt, on, i, t)?;
             queries::queries(rt, on, i, t)
         }
-        Err(e) => t.refused(rt, e),
+        Err(_) => t.answer(rt, &opened),
     }
 }

@@ -36,7 +36,7 @@ fn replay(rt: &(impl Print + Input), t: &mut Tally) -> io::Result<()> {
         println!(rt; "section {number}")?;
         t.section();
         if !one(rt, t)? {
-            return show::text(rt, b"cut short\n");
+            return rt.write_all(b"cut short\n");
         }
     }
     Ok(())

@@ -11,7 +11,7 @@ use std::io;
 pub fn strings(rt: &impl Print, on: Lent, index: NameIndex, t: &mut Tally) -> io::Result<()> {
     t.call(rt, b"names")?;
     numbers(rt, on.section, index, t)?;
-    show::text(rt, b"\n")?;
+    rt.write_all(b"\n")?;
     for number in 0..asked(name_count(on.section, index)) {
         one(rt, on, index, number, t)?;
     }
@@ -27,7 +27,7 @@ fn numbers(rt: &impl Print, s: &[u8], index: NameIndex, t: &mut Tally) -> io::Re
         match step.answer {
             Ok(Some(name)) => print!(rt; " {}", name.0)?,
             Ok(None) => break,
-            Err(e) => return t.refused(rt, e),
+            Err(_) => return t.answer(rt, &step.answer),
         }
     }
     Ok(())
@@ -36,10 +36,8 @@ fn numbers(rt: &impl Print, s: &[u8], index: NameIndex, t: &mut Tally) -> io::Re
 // The offset and the string of a name.
 fn one(rt: &impl Print, on: Lent, index: NameIndex, number: u32, t: &mut Tally) -> io::Result<()> {
     let name = NameTableIndex(number);
-    t.call_of(rt, b"string_offset", number as u64)?;
     let offset = name_string_offset(on.order, on.section, index, name);
-    t.numbers(rt, offset.map(|o| [o.0 as u64]))?;
-    t.call_of(rt, b"string", number as u64)?;
+    t.line(rt, b"string_offset", number as u64, &offset)?;
     let string = name_string(on.order, on.section, on.strings, index, name);
-    t.numbers(rt, string.map(|v| [v.start as u64, v.len as u64]))
+    t.line(rt, b"string", number as u64, &string)
 }

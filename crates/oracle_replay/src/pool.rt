@@ -1,10 +1,7 @@
 // The entry pool of an index: the series of each name, and the entry at each offset with its five facts.
 use crate::tally::{Tally, steps};
-use crate::units::{asked, type_unit_line};
-use attributes::EntryParent;
-use entries::{
-    NameEntry, compile_unit, die_offset, name_entries, name_entry, parent, type_hash, type_unit,
-};
+use crate::units::asked;
+use entries::{compile_unit, die_offset, name_entries, name_entry, parent, type_hash, type_unit};
 use index::{NameIndex, fit};
 use lent_records::Lent;
 use names::name_count;
@@ -28,21 +25,16 @@ fn series(
     number: u32,
     t: &mut Tally,
 ) -> io::Result<()> {
-    t.call_of(rt, b"name_entries", number as u64)?;
     let r = name_entries(on.order, on.section, index, NameTableIndex(number));
-    t.numbers(rt, r.map(|c| [c.at as u64]))?;
+    t.line(rt, b"name_entries", number as u64, &r)?;
     let Ok(mut cursor) = r else {
         return Ok(());
     };
     steps(t, 12, 1, |t| {
-        t.call(rt, b"next")?;
         let step = cursor.next(on.order, on.section, index);
         let next = step.answer;
         cursor = step.cursor;
-        let gave = t.step(
-            rt,
-            next.map(|entry| entry.map(|e| [e.offset.0 as u64, e.abbrev_code, e.tag as u64])),
-        )?;
+        let gave = t.step(rt, b"next", &next)?;
         if let Ok(Some(e)) = next
             && 21 < e.offset.0
         {
@@ -57,9 +49,13 @@ fn handles(rt: &impl Print, on: Lent, index: NameIndex, t: &mut Tally) -> io::Re
     let mut refused = false;
     for at in 0..offsets(on, index) {
         let offset = NameEntryOffset(at);
-        t.call_of(rt, b"name_entry", at as u64)?;
         let r = name_entry(on.order, on.section, index, offset);
-        t.numbers(rt, r.map(|e| [e.abbrev_code, e.tag as u64]))?;
+        t.line(
+            rt,
+            b"name_entry",
+            at as u64,
+            &r.map(|e| [e.abbrev_code, e.tag as u64]),
+        )?;
         if r.is_ok() || !refused {
             facts(rt, on, index, offset, t)?;
         }
@@ -88,25 +84,19 @@ fn facts(
 ) -> io::Result<()> {
     let (order, s) = (on.order, on.section);
     let at = offset.0 as u64;
-    t.call_of(rt, b"entry_compile_unit", at)?;
-    let unit = compile_unit(order, s, index, offset);
-    t.found(rt, unit.map(|unit| unit.map(|u| [u.0 as u64])))?;
-    t.call_of(rt, b"entry_type_unit", at)?;
-    let unit = type_unit(order, s, index, offset);
-    t.answer(rt, unit, |unit| match unit {
-        Some(u) => type_unit_line(rt, u),
-        None => show::text(rt, b" -\n"),
-    })?;
-    t.call_of(rt, b"die_offset", at)?;
-    let die = die_offset(order, s, index, offset);
-    t.found(rt, die.map(|die| die.map(|o| [o.0 as u64])))?;
-    t.call_of(rt, b"parent", at)?;
-    t.answer(rt, parent(order, s, index, offset), |parent| match parent {
-        EntryParent::Entry(o) => println!(rt; " entry {}", o.0),
-        EntryParent::NoParent => show::text(rt, b" none\n"),
-        EntryParent::NotKnown => show::text(rt, b" -\n"),
-    })?;
-    t.call_of(rt, b"type_hash", at)?;
-    let hash = type_hash(order, s, index, offset);
-    t.found(rt, hash.map(|hash| hash.map(|h| [h])))
+    t.line(
+        rt,
+        b"entry_compile_unit",
+        at,
+        &compile_unit(order, s, index, offset),
+    )?;
+    t.line(
+        rt,
+        b"entry_type_unit",
+        at,
+        &type_unit(order, s, index, offset),
+    )?;
+    t.line(rt, b"die_offset", at, &die_offset(order, s, index, offset))?;
+    t.line(rt, b"parent", at, &parent(order, s, index, offset))?;
+    t.line(rt, b"type_hash", at, &type_hash(order, s, index, offset))
 }

@@ -1,12 +1,13 @@
 // The section query, for parts of .debug_str.
 use crate::hash_table::hash_of;
-use crate::tally::{Tally, line};
+use crate::tally::Tally;
 use crate::units::asked;
 use index::NameIndex;
 use lent_records::Lent;
 use names::{name_count, name_string};
 use reader::NameTableIndex;
 use records::Record;
+use show::{Show, Style};
 use std::io;
 use strings::Str;
 
@@ -63,10 +64,10 @@ pub fn ask(
     t.call_of(rt, b"query", hash as u64)?;
     print!(rt; " {start} {len}")?;
     let Some(name) = on.strings.get(start..).and_then(|rest| rest.get(..len)) else {
-        return show::text(rt, b"\n");
+        return rt.write_all(b"\n");
     };
     let got = on.query(hash, name, 4);
-    t.numbers(rt, got.answer.map(|n| [n]))?;
+    t.answer(rt, &got.answer)?;
     for (number, r) in got.recs.into_iter().enumerate() {
         record(rt, number as u64, r, t)?;
     }
@@ -79,17 +80,6 @@ fn record(rt: &impl Print, number: u64, r: Record, t: &mut Tally) -> io::Result<
         return Ok(());
     }
     t.call_of(rt, b"record", number)?;
-    line(
-        rt,
-        &[
-            r.index_offset as u64,
-            r.entry_offset as u64,
-            r.name.0 as u64,
-            r.tag as u64,
-            r.unit_kind as u64,
-            r.unit_value,
-            r.has_die_offset as u64,
-            r.die_offset.0 as u64,
-        ],
-    )
+    r.show(rt, Style::Replay)?;
+    rt.write_all(b"\n")
 }

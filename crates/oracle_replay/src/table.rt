@@ -9,10 +9,10 @@ use std::io;
 pub fn abbreviations(rt: &impl Print, s: &[u8], index: NameIndex, t: &mut Tally) -> io::Result<()> {
     for code in [0, 1, 2, 3, 127, 128, 300, u64::MAX] {
         t.call_of(rt, b"abbreviation", code)?;
-        match get_abbreviation(s, index, code) {
+        let found = get_abbreviation(s, index, code);
+        match found {
             Ok(Some(d)) => declaration(rt, s, d, t)?,
-            Ok(None) => show::text(rt, b" -\n")?,
-            Err(e) => t.refused(rt, e)?,
+            _ => t.answer(rt, &found)?,
         }
     }
     Ok(())
@@ -23,7 +23,8 @@ fn declaration(rt: &impl Print, s: &[u8], d: NameAbbreviation, t: &mut Tally) ->
     print!(rt; " {}", d.tag)?;
     let mut at = d.attributes;
     for _ in d.attributes..d.next {
-        match read_attribute(s, at, d.next) {
+        let read = read_attribute(s, at, d.next);
+        match read {
             Ok(a) => {
                 if a.name == 0 {
                     break;
@@ -31,11 +32,11 @@ fn declaration(rt: &impl Print, s: &[u8], d: NameAbbreviation, t: &mut Tally) ->
                 print!(rt; " {}:{}", a.name, a.form)?;
                 at = a.next;
             }
-            Err(e) => {
-                t.refused(rt, e)?;
+            Err(_) => {
+                t.answer(rt, &read)?;
                 break;
             }
         }
     }
-    show::text(rt, b"\n")
+    rt.write_all(b"\n")
 }

@@ -1,5 +1,6 @@
 // How many sections, refusals of each number, and lines of each call were written; the last lines say it.
 use reader::Error;
+use show::{Show, Style, next};
 use std::io;
 
 // The calls by their words, in the order of the last lines.
@@ -74,13 +75,59 @@ impl Tally {
     // The first word of a line, by which the line is counted.
     pub fn call(&mut self, rt: &impl Print, word: &[u8]) -> io::Result<()> {
         self.count(word);
-        show::text(rt, word)
+        rt.write_all(word)
     }
 
     // The same with the number that the call was given.
     pub fn call_of(&mut self, rt: &impl Print, word: &[u8], argument: u64) -> io::Result<()> {
         self.call(rt, word)?;
         print!(rt; " {argument}")
+    }
+
+    // What a call answered. A refusal is counted.
+    pub fn shown<T: Show>(&mut self, rt: &impl Print, answer: &Result<T, Error>) -> io::Result<()> {
+        if let Err(e) = answer {
+            self.count_refusal(*e);
+        }
+        answer.show(rt, Style::Replay)
+    }
+
+    // The same, at the end of a line.
+    pub fn answer<T: Show>(
+        &mut self,
+        rt: &impl Print,
+        answer: &Result<T, Error>,
+    ) -> io::Result<()> {
+        self.shown(rt, answer)?;
+        rt.write_all(b"\n")
+    }
+
+    // A line of a call that was given a number.
+    pub fn line<T: Show>(
+        &mut self,
+        rt: &impl Print,
+        word: &[u8],
+        argument: u64,
+        answer: &Result<T, Error>,
+    ) -> io::Result<()> {
+        self.call_of(rt, word, argument)?;
+        self.answer(rt, answer)
+    }
+
+    // A line of a step; and whether it gave something.
+    pub fn step<T: Show>(
+        &mut self,
+        rt: &impl Print,
+        word: &[u8],
+        answer: &Result<Option<T>, Error>,
+    ) -> io::Result<bool> {
+        self.call(rt, word)?;
+        if let Err(e) = answer {
+            self.count_refusal(*e);
+        }
+        next(rt, Style::Replay, answer)?;
+        rt.write_all(b"\n")?;
+        Ok(matches!(answer, Ok(Some(_))))
     }
 
     // A refusal.
@@ -90,62 +137,6 @@ impl Tally {
         }
     }
 
-    // The same, at the end of a line.
-    pub fn refused(&mut self, rt: &impl Print, e: Error) -> io::Result<()> {
-        self.count_refusal(e);
-        show::refused(rt, e)
-    }
-
-    // What a call answered, in a form of its own, or its refusal.
-    pub fn answer<T, F: FnOnce(T) -> io::Result<()> + Drop>(
-        &mut self,
-        rt: &impl Print,
-        r: Result<T, Error>,
-        form: F,
-    ) -> io::Result<()>
-        requires { F.IsAlwaysCallable form }
-    {
-        match r {
-            Ok(v) => form(v),
-            Err(e) => self.refused(rt, e),
-        }
-    }
-
-    // The same, of some numbers.
-    pub fn numbers<const N: usize>(
-        &mut self,
-        rt: &impl Print,
-        r: Result<[u64; N], Error>,
-    ) -> io::Result<()> {
-        self.answer(rt, r, |all| line(rt, &all))
-    }
-
-    // The same where there may be none.
-    pub fn found<const N: usize>(
-        &mut self,
-        rt: &impl Print,
-        r: Result<Option<[u64; N]>, Error>,
-    ) -> io::Result<()> {
-        self.answer(rt, r, |found| match found {
-            Some(all) => line(rt, &all),
-            None => show::text(rt, b" -\n"),
-        })
-    }
-
-    // What a step answered, the end, or its refusal; and whether it gave something.
-    pub fn step<const N: usize>(
-        &mut self,
-        rt: &impl Print,
-        r: Result<Option<[u64; N]>, Error>,
-    ) -> io::Result<bool> {
-        match r {
-            Ok(Some(all)) => line(rt, &all)?,
-            Ok(None) => show::text(rt, b" end\n")?,
-            Err(e) => self.refused(rt, e)?,
-        }
-        Ok(matches!(r, Ok(Some(_))))
-    }
-
     // The last lines.
     pub fn totals(&self, rt: &impl Print) -> io::Result<()> {
         println!(rt; "sections {}", self.sections)?;
@@ -153,17 +144,11 @@ impl Tally {
             println!(rt; "refused {number} {}", self.refusals[number])?;
         }
         for (n, word) in self.calls.iter().zip(CALLS) {
-            show::text(rt, word)?;
+            rt.write_all(word)?;
             println!(rt; " {n}")?;
         }
         Ok(())
     }
-}
-
-// Numbers, at the end of a line.
-pub fn line(rt: &impl Print, all: &[u64]) -> io::Result<()> {
-    show::numbers(rt, all)?;
-    show::text(rt, b"\n")
 }
 
 // Steps of a cursor: at most `most` up to the first that gives nothing, and then `more` after it. A step says whether it gave something.
