@@ -38,12 +38,12 @@ pub extern "C" fn debug_names_next_in_bucket(
     section: &[u8],
     index: IndexHandle,
     bucket: u32,
-    name: u32,
+    name: NameTableIndex,
 ) -> BucketAnswer
-    ensures { result ≡ bucket_step_answer (bucket_step (order_of order) section.now (index_from index) (bucket_cursor bucket name)) }
+    ensures { result ≡ bucket_step_answer (bucket_step (order_of order) section.now (index_from index) (bucket_cursor bucket name.0)) }
 {
     let cursor = NameBucketIter {
-        name_table_index: NameTableIndex(name),
+        name_table_index: name,
         bucket_index: bucket,
     };
     bucket_step_answer(cursor.next(order_of(order), section, NameIndex::from(index)))
@@ -70,10 +70,13 @@ pub extern "C" fn debug_names_next_by_hash(
     index: IndexHandle,
     cursor: HashCursor,
 ) -> HashAnswer
-    ensures { result ≡ hash_step_answer (hash_step (order_of order) section.now (index_from index) (iter_from cursor)) }
+    ensures { result ≡ hash_step_answer cursor (hash_step (order_of order) section.now (index_from index) (iter_from cursor)) }
 {
     let names = NameHashIter::from(cursor);
-    hash_step_answer(names.next(order_of(order), section, NameIndex::from(index)))
+    hash_step_answer(
+        cursor,
+        names.next(order_of(order), section, NameIndex::from(index)),
+    )
 }
 
 // Whether lookups by hash list every name, and where they do not, how many are missed, the smallest of their numbers, and the hash that is stored

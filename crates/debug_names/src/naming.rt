@@ -21,15 +21,15 @@ pub extern "C" fn debug_names_name_string_offset(
     order: u32,
     section: &[u8],
     index: IndexHandle,
-    name: u32,
+    name: NameTableIndex,
 ) -> Answer
-    ensures { result ≡ handed str_offset_answer (name_string_offset (order_of order) section.now (index_from index) (record { 0 = name })) }
+    ensures { result ≡ handed str_offset_answer (name_string_offset (order_of order) section.now (index_from index) name) }
 {
     str_offset_answer(name_string_offset(
         order_of(order),
         section,
         NameIndex::from(index),
-        NameTableIndex(name),
+        name,
     ))
 }
 
@@ -40,23 +40,23 @@ pub extern "C" fn debug_names_name_string(
     section: &[u8],
     strings: &[u8],
     index: IndexHandle,
-    name: u32,
+    name: NameTableIndex,
 ) -> StringAnswer
-    ensures { result ≡ string_answer (name_string (order_of order) section.now strings.now (index_from index) (record { 0 = name })) }
+    ensures { result ≡ string_answer (name_string (order_of order) section.now strings.now (index_from index) name) }
 {
     string_answer(name_string(
         order_of(order),
         section,
         strings,
         NameIndex::from(index),
-        NameTableIndex(name),
+        name,
     ))
 }
 
 // Where the string at an offset of .debug_str stands.
 #[unsafe(no_mangle)]
-pub extern "C" fn debug_names_get_str(strings: &[u8], offset: usize) -> StringAnswer
-    ensures { result ≡ string_answer (get_str strings.now offset) }
+pub extern "C" fn debug_names_get_str(strings: &[u8], offset: DebugStrOffset) -> StringAnswer
+    ensures { result ≡ string_answer (get_str strings.now offset.0) }
 {
-    string_answer(DebugStr::get_str(strings, DebugStrOffset(offset)))
+    string_answer(DebugStr::get_str(strings, offset))
 }

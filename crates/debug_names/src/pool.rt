@@ -20,15 +20,15 @@ pub extern "C" fn debug_names_name_entries(
     order: u32,
     section: &[u8],
     index: IndexHandle,
-    name: u32,
+    name: NameTableIndex,
 ) -> Answer
-    ensures { result ≡ handed entries_answer (name_entries (order_of order) section.now (index_from index) (record { 0 = name })) }
+    ensures { result ≡ handed entries_answer (name_entries (order_of order) section.now (index_from index) name) }
 {
     entries_answer(name_entries(
         order_of(order),
         section,
         NameIndex::from(index),
-        NameTableIndex(name),
+        name,
     ))
 }
 
@@ -56,13 +56,12 @@ pub extern "C" fn debug_names_name_entry(
     order: u32,
     section: &[u8],
     index: IndexHandle,
-    offset: usize,
+    offset: NameEntryOffset,
 ) -> EntryAnswer
-    ensures { result ≡ entry_answer (order_of order) section.now (index_from index) (record { 0 = offset }) }
+    ensures { result ≡ entry_answer (order_of order) section.now (index_from index) offset }
 {
     let endian = order_of(order);
     let opened = NameIndex::from(index);
-    let handle = NameEntryOffset(offset);
-    let whole = whole_entry(endian, section, opened, handle);
-    entry_answer(endian, section, opened, handle, whole)
+    let whole = whole_entry(endian, section, opened, offset);
+    entry_answer(endian, section, opened, offset, whole)
 }

@@ -80,11 +80,11 @@ header_for i = record {
 
 -- the hash cursor of a caller's numbers, and back
 unfoldable pub iter_from : HashCursor → NameHashIter
-iter_from c = cond (eqb c.has_bucket 0) (record { bucket_iter = None; hash = c.hash }) (hash_cursor c.bucket c.hash c.name)
+iter_from c = cond (eqb c.has_bucket 0) (record { bucket_iter = None; hash = c.hash }) (hash_cursor c.bucket c.hash c.name.0)
 
 abbrev cursor_in : ℕ → Option NameBucketIter → HashCursor
-cursor_in hash None = record { hash = hash; has_bucket = 0; bucket = 0; name = 0 }
-cursor_in hash (Some b) = record { hash = hash; has_bucket = 1; bucket = b.bucket_index; name = b.name_table_index.0 }
+cursor_in hash None = record { hash = hash; has_bucket = 0; bucket = 0; name = record { 0 = 0 } }
+cursor_in hash (Some b) = record { hash = hash; has_bucket = 1; bucket = b.bucket_index; name = b.name_table_index }
 
 unfoldable pub cursor_from : NameHashIter → HashCursor
 cursor_from c = cursor_in c.hash c.bucket_iter
@@ -104,4 +104,4 @@ no_handle = record {
 }
 
 unfoldable pub no_cursor : HashCursor
-no_cursor = record { hash = 0; has_bucket = 0; bucket = 0; name = 0 }
+no_cursor = record { hash = 0; has_bucket = 0; bucket = 0; name = record { 0 = 0 } }

@@ -36,7 +36,7 @@ pub struct HashCursor {
     pub hash: u32,
     pub has_bucket: u32,
     pub bucket: u32,
-    pub name: u32,
+    pub name: NameTableIndex,
 }
 
 // The byte order of a number: 0 is little, any other is big. (A `From` can't be written here, since both types are of other crates.)
@@ -139,7 +139,7 @@ impl From<HashCursor> for NameHashIter {
         }
         NameHashIter {
             bucket_iter: Some(NameBucketIter {
-                name_table_index: NameTableIndex(c.name),
+                name_table_index: c.name,
                 bucket_index: c.bucket,
             }),
             hash: c.hash,
@@ -158,7 +158,7 @@ impl From<NameHashIter> for HashCursor {
                 hash: iter.hash,
                 has_bucket: 1,
                 bucket: b.bucket_index,
-                name: b.name_table_index.0,
+                name: b.name_table_index,
             },
             None => HashCursor {
                 hash: iter.hash,

@@ -25,7 +25,10 @@ impl Format {
     }
 }
 
+// These numbers cross to C as they are, each in a struct of its own: so no number stands where another is meant.
+
 // An offset into the .debug_info section.
+#[repr(C)]
 #[derive(Clone, Copy)]
 pub struct DebugInfoOffset(pub usize);
 
@@ -34,6 +37,7 @@ pub struct DebugInfoOffset(pub usize);
 pub struct DebugNamesOffset(pub usize);
 
 // An offset into the .debug_str section.
+#[repr(C)]
 #[derive(Clone, Copy)]
 pub struct DebugStrOffset(pub usize);
 
@@ -41,16 +45,17 @@ pub struct DebugStrOffset(pub usize);
 #[derive(Clone, Copy)]
 pub struct DebugTypeSignature(pub u64);
 
-// An offset from the start of a unit. It stands in records, which callers in C lend.
+// An offset from the start of a unit.
 #[repr(C)]
 #[derive(Clone, Copy)]
 pub struct UnitOffset(pub usize);
 
 // An offset into the entry pool of an index.
+#[repr(C)]
 #[derive(Clone, Copy)]
 pub struct NameEntryOffset(pub usize);
 
-// The number of a name of an index, counted from 0. It stands in records, too.
+// The number of a name of an index, counted from 0.
 #[repr(C)]
-#[derive(Clone, Copy)]
+#[derive(Clone, Copy, Default)]
 pub struct NameTableIndex(pub u32);

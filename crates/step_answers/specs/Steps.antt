@@ -17,6 +17,7 @@ use Rattle.step_answers.specs.declared.StringAnswer.{StringAnswer}
 use Rattle.step_answers.specs.declared.BucketAnswer.{BucketAnswer}
 use Rattle.step_answers.specs.declared.HashAnswer.{HashAnswer}
 use Rattle.step_answers.specs.declared.TableAnswer.{TableAnswer}
+use Rattle.handles.specs.declared.HashCursor.{HashCursor}
 use Rattle.handles.specs.Handles.{handle_of, cursor_from, no_handle, no_cursor}
 use Rattle.headers.specs.declared.header.AugmentationString.{AugmentationString}
 
@@ -46,32 +47,33 @@ string_answer (answered t) = record { status = 0; kind = 1; value = t.start; len
 string_answer (refused n v) = record { status = n; kind = 0; value = v; len = 0 }
 
 -- a bucket step: the name's number and its stored hash, and the number of the name to examine next
-abbrev bucket_answer_at : ℕ → Outcome (Option BucketName) → BucketAnswer
+abbrev bucket_answer_at : NameTableIndex → Outcome (Option BucketName) → BucketAnswer
 bucket_answer_at next (answered (Some n)) = record { status = 0; kind = 1; value = n.name.0; hash = n.hash; next = next }
 bucket_answer_at next (answered None) = record { status = 0; kind = 0; value = 0; hash = 0; next = next }
 bucket_answer_at next (refused n v) = record { status = n; kind = 0; value = v; hash = 0; next = next }
 
 abbrev pub bucket_step_answer : Step BucketName NameBucketIter → BucketAnswer
-bucket_step_answer t = bucket_answer_at t.cursor.name_table_index.0 t.answer
+bucket_step_answer t = bucket_answer_at t.cursor.name_table_index t.answer
 
 -- a lookup by hash, and its steps
 abbrev pub hash_answer : Outcome NameHashIter → HashAnswer
 hash_answer (answered c) = record { status = 0; kind = 1; value = 0; next = cursor_from c }
 hash_answer (refused n v) = record { status = n; kind = 0; value = v; next = no_cursor }
 
-abbrev hash_answer_at : NameHashIter → Outcome (Option NameTableIndex) → HashAnswer
-hash_answer_at next (answered (Some name)) = record { status = 0; kind = 1; value = name.0; next = cursor_from next }
-hash_answer_at next (answered None) = record { status = 0; kind = 0; value = 0; next = cursor_from next }
-hash_answer_at next (refused n v) = record { status = n; kind = 0; value = v; next = cursor_from next }
+-- a step from a caller's cursor; refused, it hands back that cursor, number by number (only 13 and 14 refuse a step)
+abbrev hash_answer_at : HashCursor → NameHashIter → Outcome (Option NameTableIndex) → HashAnswer
+hash_answer_at from next (answered (Some name)) = record { status = 0; kind = 1; value = name.0; next = cursor_from next }
+hash_answer_at from next (answered None) = record { status = 0; kind = 0; value = 0; next = cursor_from next }
+hash_answer_at from next (refused n v) = record { status = n; kind = 0; value = v; next = from }
 
-abbrev pub hash_step_answer : Step NameTableIndex NameHashIter → HashAnswer
-hash_step_answer t = hash_answer_at t.cursor t.answer
+abbrev pub hash_step_answer : HashCursor → Step NameTableIndex NameHashIter → HashAnswer
+hash_step_answer from t = hash_answer_at from t.cursor t.answer
 
 -- the table check. With status 0, kind 0 is no hash table, 1 is complete, and 2 is incomplete: `value` is how many names are missed, `name` the
 -- smallest number among them, and `hash` the hash that is stored for that name. A refusal has its number as status, its value, and kind 0. All
 -- else is 0.
 abbrev pub table_answer : Outcome TableCheck → TableAnswer
-table_answer (answered TableCheck.NoTable) = record { status = 0; kind = 0; value = 0; name = 0; hash = 0 }
-table_answer (answered TableCheck.Complete) = record { status = 0; kind = 1; value = 0; name = 0; hash = 0 }
-table_answer (answered (TableCheck.Incomplete lost)) = record { status = 0; kind = 2; value = lost.missed; name = lost.name.0; hash = lost.hash }
-table_answer (refused n v) = record { status = n; kind = 0; value = v; name = 0; hash = 0 }
+table_answer (answered TableCheck.NoTable) = record { status = 0; kind = 0; value = 0; name = record { 0 = 0 }; hash = 0 }
+table_answer (answered TableCheck.Complete) = record { status = 0; kind = 1; value = 0; name = record { 0 = 0 }; hash = 0 }
+table_answer (answered (TableCheck.Incomplete lost)) = record { status = 0; kind = 2; value = lost.missed; name = lost.name; hash = lost.hash }
+table_answer (refused n v) = record { status = n; kind = 0; value = v; name = record { 0 = 0 }; hash = 0 }

@@ -57,7 +57,7 @@ pub struct BucketAnswer {
     pub kind: u32,
     pub value: u64,
     pub hash: u32,
-    pub next: u32,
+    pub next: NameTableIndex,
 }
 
 // A lookup by hash, or a step of it: kind 0 is the end; 1 is the name of number `value`, and of the lookup itself 0.
@@ -78,7 +78,7 @@ pub struct TableAnswer {
     pub status: u32,
     pub kind: u32,
     pub value: u64,
-    pub name: u32,
+    pub name: NameTableIndex,
     pub hash: u32,
 }
 
@@ -160,7 +160,7 @@ pub fn string_answer(r: Result<Str, Error>) -> StringAnswer
 pub fn bucket_step_answer(step: Step<BucketName, NameBucketIter>) -> BucketAnswer
     ensures { result ≡ bucket_step_answer (step_of step.answer step.cursor) }
 {
-    let next = step.cursor.name_table_index.0;
+    let next = step.cursor.name_table_index;
     match step.answer {
         Ok(Some(n)) => BucketAnswer {
             status: 0,
@@ -202,9 +202,10 @@ pub fn hash_answer(r: Result<NameHashIter, Error>) -> HashAnswer
     }
 }
 
-// A hash step, with the cursor after it.
-pub fn hash_step_answer(step: Step<NameTableIndex, NameHashIter>) -> HashAnswer
-    ensures { result ≡ hash_step_answer (step_of step.answer step.cursor) }
+// A hash step from a caller's cursor, with the cursor after it. A step is refused only with 13 and 14, which leave the cursor as it was: then it is
+// the caller's, number by number.
+pub fn hash_step_answer(from: HashCursor, step: Step<NameTableIndex, NameHashIter>) -> HashAnswer
+    ensures { result ≡ hash_step_answer from (step_of step.answer step.cursor) }
 {
     let next = HashCursor::from(step.cursor);
     match step.answer {
@@ -221,7 +222,7 @@ pub fn hash_step_answer(step: Step<NameTableIndex, NameHashIter>) -> HashAnswer
         Err(e) => HashAnswer {
             status: e.number() as u32,
             value: e.value(),
-            next,
+            next: from,
             ..HashAnswer::default()
         },
     }
@@ -241,7 +242,7 @@ pub fn table_answer(r: Result<TableCheck, Error>) -> TableAnswer
             status: 0,
             kind: 2,
             value: lost.missed as u64,
-            name: lost.name.0,
+            name: lost.name,
             hash: lost.hash,
         },
         Err(e) => TableAnswer {
