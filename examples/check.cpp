@@ -55,7 +55,7 @@ std::string read_file(const char* path) {
 
 void print_lost(const dn::lost_name& lost) {
     std::printf("%" PRIu64 " %s missed, the first is name %" PRIu32 " hash 0x%" PRIx32 " ", lost.missed,
-        lost.missed == 1 ? "name" : "names", lost.name, lost.hash);
+        lost.missed == 1 ? "name" : "names", lost.name.value, lost.hash);
     if (lost.string) std::printf("\"%.*s\"\n", static_cast<int>(lost.string->size()), lost.string->data());
     else print_refusal(stdout, lost.string.why());
 }

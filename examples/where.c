@@ -182,13 +182,14 @@ static debug_names_answer unit_of(const struct search *s, const struct opened *i
 }
 
 /* The record that the query has to give for an entry. */
-static debug_names_record record_of(const struct search *s, const struct opened *in, uint32_t name, const debug_names_entry *entry) {
+static debug_names_record record_of(
+    const struct search *s, const struct opened *in, debug_names_name_index name, const debug_names_entry *entry) {
     debug_names_answer unit = unit_of(s, in, entry);
     debug_names_answer die = entry->facts.die_offset;
     must_be_answered(die.status, die.value);
     return (debug_names_record){
         .unit_value = unit.value,
-        .die_offset = (size_t)die.value,
+        .die_offset = (debug_names_unit_offset)die.value,
         .index_offset = (uint32_t)in->place,
         .entry_offset = (uint32_t)entry->value,
         .name = name,
@@ -205,7 +206,7 @@ static bool same(const debug_names_record *a, const debug_names_record *b) {
 }
 
 /* Compares the entries of a name with the query's next records. */
-static void meet_entries(const struct search *s, const struct opened *in, uint32_t name, struct records *found) {
+static void meet_entries(const struct search *s, const struct opened *in, debug_names_name_index name, struct records *found) {
     debug_names_answer first = debug_names_name_entries(DEBUG_NAMES_LITTLE_ENDIAN, s->names.data, s->names.len, in->index, name);
     must_be_answered(first.status, first.value);
     size_t at = (size_t)first.value;
@@ -221,7 +222,7 @@ static void meet_entries(const struct search *s, const struct opened *in, uint32
 }
 
 /* Compares the entries of a name, if its string is the one that is looked for. */
-static void meet_name(const struct search *s, const struct opened *in, uint32_t name, struct records *found) {
+static void meet_name(const struct search *s, const struct opened *in, debug_names_name_index name, struct records *found) {
     debug_names_string string = debug_names_name_string(
         DEBUG_NAMES_LITTLE_ENDIAN, s->names.data, s->names.len, s->strings.data, s->strings.len, in->index, name);
     must_be_answered(string.status, string.value);
@@ -237,7 +238,7 @@ static void meet_hash(const struct search *s, const struct opened *in, struct re
         step = debug_names_next_by_hash(DEBUG_NAMES_LITTLE_ENDIAN, s->names.data, s->names.len, in->index, step.next);
         must_be_answered(step.status, step.value);
         if (step.kind == DEBUG_NAMES_NONE) return;
-        meet_name(s, in, (uint32_t)step.value, found);
+        meet_name(s, in, (debug_names_name_index)step.value, found);
     }
 }
 
@@ -245,7 +246,7 @@ static void meet_hash(const struct search *s, const struct opened *in, struct re
 static void meet_all_names(const struct search *s, const struct opened *in, struct records *found) {
     debug_names_answer count = debug_names_name_count(s->names.data, s->names.len, in->index);
     must_be_answered(count.status, count.value);
-    for (uint32_t name = 0; name < count.value; name++) meet_name(s, in, name, found);
+    for (debug_names_name_index name = 0; name < count.value; name++) meet_name(s, in, name, found);
 }
 
 /* Looks the name up in each index, and compares what is found with the query's records. */

@@ -105,20 +105,20 @@ std::vector<dn::record> find_by_query(const search& s) {
     return found;
 }
 
-void print_unit(const dn::record& r) {
-    switch (static_cast<dn::unit_kind>(r.unit_kind)) {
-    case dn::unit_kind::compile: std::printf(" compile unit 0x%" PRIx64, r.unit_value); break;
-    case dn::unit_kind::local_type: std::printf(" local type unit 0x%" PRIx64, r.unit_value); break;
-    case dn::unit_kind::foreign_type: std::printf(" foreign type unit 0x%" PRIx64, r.unit_value); break;
+void print_unit(const dn::unit& unit) {
+    switch (unit.kind) {
+    case dn::unit_kind::compile: std::printf(" compile unit 0x%zx", unit.offset()->value); break;
+    case dn::unit_kind::local_type: std::printf(" local type unit 0x%zx", unit.offset()->value); break;
+    case dn::unit_kind::foreign_type: std::printf(" foreign type unit 0x%" PRIx64, unit.signature()->value); break;
     case dn::unit_kind::none: std::printf(" no unit"); break;
     }
 }
 
 void print_record(std::string_view name, const dn::record& r) {
-    std::printf("%.*s: index 0x%" PRIx32 " entry 0x%" PRIx32 " tag 0x%x", static_cast<int>(name.size()), name.data(), r.index_offset,
-        r.entry_offset, static_cast<unsigned>(r.tag));
-    print_unit(r);
-    if (r.has_die_offset != 0) std::printf(" DIE 0x%zx\n", r.die_offset);
+    std::printf("%.*s: index 0x%" PRIx32 " entry 0x%zx tag 0x%x", static_cast<int>(name.size()), name.data(), r.index_offset,
+        dn::entry_of(r).value, static_cast<unsigned>(r.tag));
+    print_unit(dn::unit_of(r));
+    if (const auto die = dn::die_offset_of(r)) std::printf(" DIE 0x%zx\n", die->value);
     else std::printf(" no DIE\n");
 }
 
@@ -140,15 +140,15 @@ dn::unit unit_of(const dn::index& index, const dn::entry& entry) {
 }
 
 // The record that the query has to give for an entry.
-dn::record record_of(const dn::header& in, std::uint32_t name, const dn::entry& entry) {
+dn::record record_of(const dn::header& in, dn::name_index name, const dn::entry& entry) {
     const dn::unit unit = unit_of(in.index(), entry);
     const auto die = answered(entry.die_offset());
     dn::record record{};
     record.unit_value = unit.value;
-    record.die_offset = static_cast<std::size_t>(die.value_or(0));
+    record.die_offset = die.value_or(dn::unit_offset(0)).value;
     record.index_offset = static_cast<std::uint32_t>(in.place());
-    record.entry_offset = static_cast<std::uint32_t>(entry.offset());
-    record.name = name;
+    record.entry_offset = static_cast<std::uint32_t>(entry.offset().value);
+    record.name = name.value;
     record.tag = static_cast<std::uint16_t>(entry.tag());
     record.unit_kind = static_cast<std::uint8_t>(unit.kind);
     record.has_die_offset = die.has_value();
@@ -156,7 +156,7 @@ dn::record record_of(const dn::header& in, std::uint32_t name, const dn::entry& 
 }
 
 // Adds a record for each entry of a name, if its string is the one that is looked for.
-void add_name(const search& s, const dn::header& in, std::uint32_t name, std::vector<dn::record>& found) {
+void add_name(const search& s, const dn::header& in, dn::name_index name, std::vector<dn::record>& found) {
     if (answered(in.index().name_string(s.strings, name)) != s.name) return;
     for (const auto& entry : in.index().entries(name)) found.push_back(record_of(in, name, answered(entry)));
 }

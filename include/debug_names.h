@@ -14,10 +14,11 @@
  * - An answer is a struct by value: `status` is 0, or the number of the refusal; `kind` says what is answered; `value` is the
  *   answer's number, or, where the call is refused, the one value that the refusal carries (0 where it carries none). Where a
  *   call is refused, or answers an end or none, every field that its comment does not name is 0.
- * - A step answers the cursor after it, also where it is refused; after 13 and 14 that is the cursor as it was.
+ * - A step answers the cursor after it, also where it is refused. After 13 and 14 that is the caller's cursor, number by number.
+ * - The number of a name, the handle of an entry and the offset of a string, a unit or a DIE each have a type of their own, by which parameters
+ *   and fields are declared. `value` is a uint64_t, since it also holds what a refusal carries: the comments say which type it has else.
  *
- * A place is a byte offset from the section's start; a handle of an entry is its offset from the start of its index's entry pool. The
- * structs are those of x86-64. */
+ * A place is a byte offset from the section's start. The structs are those of x86-64. */
 #ifndef DEBUG_NAMES_H
 #define DEBUG_NAMES_H
 
@@ -27,6 +28,15 @@
 #ifdef __cplusplus
 extern "C" {
 #endif
+
+/* Numbers that stand for something, each under a name of its own. To a C compiler they are plain numbers, so that an offset in one section
+ * passes for one in another; in debug_names.hpp they are types that do not mix. */
+typedef uint32_t debug_names_name_index;     /* the number of a name in its index, counted from 0 */
+typedef size_t debug_names_entry_offset;     /* the handle of an entry: its offset from the start of its index's entry pool */
+typedef size_t debug_names_str_offset;       /* an offset in .debug_str, where a string begins */
+typedef size_t debug_names_info_offset;      /* an offset in .debug_info, where a unit begins */
+typedef size_t debug_names_unit_offset;      /* the offset of a DIE from the start of its unit */
+typedef uint64_t debug_names_type_signature; /* the signature of a type unit */
 
 /* The byte orders. */
 enum debug_names_order { DEBUG_NAMES_LITTLE_ENDIAN = 0, DEBUG_NAMES_BIG_ENDIAN = 1 };
@@ -43,7 +53,7 @@ enum debug_names_status {
     DEBUG_NAMES_BAD_UNSIGNED_LEB128 = 7,
     DEBUG_NAMES_INVALID_ABBREVIATION_CODE = 8,    /* the code */
     DEBUG_NAMES_UNKNOWN_FORM = 9,                 /* the form */
-    DEBUG_NAMES_NO_ENTRY_AT_GIVEN_OFFSET = 10,    /* the offset */
+    DEBUG_NAMES_NO_ENTRY_AT_GIVEN_OFFSET = 10,    /* the debug_names_entry_offset */
     DEBUG_NAMES_INVALID_NAME_ATTRIBUTE_INDEX = 11, /* the number */
     DEBUG_NAMES_UNSUPPORTED_ATTRIBUTE_FORM = 12,  /* the form */
     DEBUG_NAMES_SECTION_TOO_LONG = 13,
@@ -76,7 +86,7 @@ static inline const char *debug_names_status_name(uint32_t status) {
 /* What `kind` says: none or an end is 0, and what is there is 1, but for the three lists that follow. */
 enum debug_names_kind { DEBUG_NAMES_NONE = 0, DEBUG_NAMES_SOME = 1 };
 
-/* The kinds of units: the value of 1 and 2 is an offset in .debug_info, that of 3 a type signature. */
+/* The kinds of units: the value of 1 and 2 is a debug_names_info_offset, that of 3 a debug_names_type_signature. */
 enum debug_names_unit_kind {
     DEBUG_NAMES_NO_UNIT = 0,
     DEBUG_NAMES_COMPILE_UNIT = 1,
@@ -87,7 +97,7 @@ enum debug_names_unit_kind {
 /* What is known of an entry's parent. */
 enum debug_names_parent_kind {
     DEBUG_NAMES_PARENT_NOT_KNOWN = 0, /* the entry does not say */
-    DEBUG_NAMES_PARENT_ENTRY = 1,     /* the value is the parent's handle */
+    DEBUG_NAMES_PARENT_ENTRY = 1,     /* the value is the parent's debug_names_entry_offset */
     DEBUG_NAMES_NO_PARENT = 2         /* it has none in the index */
 };
 
@@ -140,7 +150,7 @@ typedef struct {
     uint32_t version;
 } debug_names_header;
 
-/* A string of .debug_str: it begins at `value` and has `len` bytes, the zero byte not counted. */
+/* A string of .debug_str: `value` is the debug_names_str_offset where it begins, and it has `len` bytes, the zero byte not counted. */
 typedef struct {
     uint32_t status;
     uint32_t kind;
@@ -148,27 +158,27 @@ typedef struct {
     size_t len;
 } debug_names_string;
 
-/* A step over the names of a bucket: kind 0 is the end, 1 is the name of number `value`, for which `hash` is stored. `next` is the
- * number of the name to examine next. */
+/* A step over the names of a bucket: kind 0 is the end, 1 is a name, whose debug_names_name_index is `value`, and for which `hash` is stored.
+ * `next` is the cursor after the step, refusals included: the name to examine next. */
 typedef struct {
     uint32_t status;
     uint32_t kind;
     uint64_t value;
     uint32_t hash;
-    uint32_t next;
+    debug_names_name_index next;
 } debug_names_bucket_step;
 
-/* A cursor over the names that store a hash: the name to examine next, in a bucket. Where `has_bucket` is 0 there are none, and in an
- * answer bucket and name are then 0; else it is 1 in an answer. */
+/* A cursor over the names that store a hash: the name to examine next, in a bucket. Where `has_bucket` is 0 there are none. An answer that is
+ * not refused then has 0 for bucket and name, and else 1 for `has_bucket`. */
 typedef struct {
     uint32_t hash;
     uint32_t has_bucket;
     uint32_t bucket;
-    uint32_t name;
+    debug_names_name_index name;
 } debug_names_hash_cursor;
 
-/* A lookup by hash, or a step of it: kind 0 is the end, 1 is the name of number `value` (of the lookup itself: `value` is 0). `next` is
- * the cursor after it; a refused lookup has none, and all its numbers are 0. */
+/* A lookup by hash, or a step of it: kind 0 is the end, 1 is a name, whose debug_names_name_index is `value` (of the lookup itself: `value`
+ * is 0). `next` is the cursor after it, and after a refused step the caller's own; a refused lookup has none, and all its numbers are 0. */
 typedef struct {
     uint32_t status;
     uint32_t kind;
@@ -183,22 +193,21 @@ typedef struct {
     uint32_t status;
     uint32_t kind;
     uint64_t value;
-    uint32_t name;
+    debug_names_name_index name;
     uint32_t hash;
 } debug_names_table;
 
-/* The five facts of an entry. Each is an answer of its own: kind 0 where the entry has no attribute of that name. The units' kinds are
- * those of debug_names_unit_kind, the parent's those of debug_names_parent_kind. */
+/* The five facts of an entry. Each is an answer of its own: kind 0 where the entry has no attribute of that name. */
 typedef struct {
-    debug_names_answer compile_unit;
-    debug_names_answer type_unit;
-    debug_names_answer die_offset;
-    debug_names_answer parent;
-    debug_names_answer type_hash;
+    debug_names_answer compile_unit; /* kind and value are those of debug_names_unit_kind */
+    debug_names_answer type_unit;    /* the same */
+    debug_names_answer die_offset;   /* the value is a debug_names_unit_offset */
+    debug_names_answer parent;       /* kind and value are those of debug_names_parent_kind */
+    debug_names_answer type_hash;    /* the value is the hash of the type */
 } debug_names_facts;
 
-/* An entry: kind 0 is the end of a series; 1 is an entry, whose handle (its offset in the pool) is `value`. `next` is the cursor after
- * the step, refusals included. Where the entry is refused, so is each of its facts. */
+/* An entry: kind 0 is the end of a series; 1 is an entry, whose debug_names_entry_offset is `value`. `next` is the cursor after the step,
+ * refusals included. Where the entry is refused, so is each of its facts. */
 typedef struct {
     uint32_t status;
     uint32_t kind;
@@ -214,11 +223,11 @@ typedef struct {
  * entry of a split build may have both attributes: its DIE belongs to the type unit, and its compile unit, which tells which split file
  * to load, is a fact of debug_names_name_entry for the same handle. Where `has_die_offset` is 0, `die_offset` is 0. */
 typedef struct {
-    uint64_t unit_value;
-    size_t die_offset;     /* from the start of the unit */
+    uint64_t unit_value; /* a debug_names_info_offset, a debug_names_type_signature, or 0, by `unit_kind` */
+    debug_names_unit_offset die_offset;
     uint32_t index_offset; /* the place of the index's header */
-    uint32_t entry_offset; /* the entry's handle */
-    uint32_t name;         /* the name's number in the index */
+    uint32_t entry_offset; /* the entry's handle: a debug_names_entry_offset in 32 bits, which are enough for any section that is taken */
+    debug_names_name_index name;
     uint16_t tag;
     uint8_t unit_kind;
     uint8_t has_die_offset;
@@ -236,7 +245,8 @@ _Static_assert(sizeof(debug_names_table) == 24, "a table check has 24 bytes on x
 
 /* ---- Opening a section */
 
-/* The next header, from the cursor `at`; the first cursor is 0. After a refusal the next step is the end. */
+/* The next header, from the cursor `at`; the first cursor is 0. After a refusal the next step is the end, but for 13 and 14: these leave the
+ * cursor as it was, and the next step is refused alike. */
 debug_names_header_step debug_names_next_header(uint32_t order, const uint8_t *section, size_t section_len, size_t at);
 
 /* What else the header at a place says; refused, and at the section's end none, as that step is. */
@@ -256,7 +266,7 @@ debug_names_answer debug_names_name_count(const uint8_t *section, size_t section
 /* Kind 1, and the value is 1 where the index has a hash table, else 0. */
 debug_names_answer debug_names_has_hash_table(const uint8_t *section, size_t section_len, debug_names_index index);
 
-/* ---- Units, by number: the kind is that of the unit. */
+/* ---- Units, by number: kind and value are those of debug_names_unit_kind. */
 debug_names_answer debug_names_compile_unit(
     uint32_t order, const uint8_t *section, size_t section_len, debug_names_index index, uint32_t number);
 debug_names_answer debug_names_local_type_unit(
@@ -266,30 +276,32 @@ debug_names_answer debug_names_foreign_type_unit(
 /* Local numbers first, then foreign ones. */
 debug_names_answer debug_names_type_unit(
     uint32_t order, const uint8_t *section, size_t section_len, debug_names_index index, uint32_t number);
-/* The only compile unit of an index (kind 1), else none (0). */
+/* The only compile unit of an index (kind 1, and the value is a debug_names_info_offset), else none (0). */
 debug_names_answer debug_names_default_compile_unit(
     uint32_t order, const uint8_t *section, size_t section_len, debug_names_index index);
 
 /* ---- Names: 0 up to the number of names. */
 
-/* The .debug_str offset of a name's string. Kind 1. */
+/* Where a name's string begins. Kind 1, and the value is a debug_names_str_offset. */
 debug_names_answer debug_names_name_string_offset(
-    uint32_t order, const uint8_t *section, size_t section_len, debug_names_index index, uint32_t name);
-/* Where a name's string stands in .debug_str. Kind 1. */
+    uint32_t order, const uint8_t *section, size_t section_len, debug_names_index index, debug_names_name_index name);
+/* Where a name's string stands in .debug_str. Kind 1, and the value is a debug_names_str_offset. */
 debug_names_string debug_names_name_string(
     uint32_t order, const uint8_t *section, size_t section_len, const uint8_t *strings, size_t strings_len,
-    debug_names_index index, uint32_t name);
-/* Where the string at an offset of .debug_str stands. Kind 1. */
-debug_names_string debug_names_get_str(const uint8_t *strings, size_t strings_len, size_t offset);
+    debug_names_index index, debug_names_name_index name);
+/* Where the string at an offset of .debug_str stands. Kind 1, and the value is that debug_names_str_offset. */
+debug_names_string debug_names_get_str(const uint8_t *strings, size_t strings_len, debug_names_str_offset offset);
 
 /* ---- The hash table */
 
-/* The cursor over the names of a bucket: kind 1, and the value is the number of its first name; kind 0 where the bucket is empty. */
+/* The cursor over the names of a bucket: kind 1, and the value is the debug_names_name_index of its first name; kind 0 where the bucket is
+ * empty. */
 debug_names_answer debug_names_find_by_bucket(
     uint32_t order, const uint8_t *section, size_t section_len, debug_names_index index, uint32_t bucket);
 /* The next name of a bucket, from the cursor `name`. */
 debug_names_bucket_step debug_names_next_in_bucket(
-    uint32_t order, const uint8_t *section, size_t section_len, debug_names_index index, uint32_t bucket, uint32_t name);
+    uint32_t order, const uint8_t *section, size_t section_len, debug_names_index index, uint32_t bucket,
+    debug_names_name_index name);
 /* The cursor over the names that store a hash: kind 1. */
 debug_names_hash_step debug_names_find_by_hash(
     uint32_t order, const uint8_t *section, size_t section_len, debug_names_index index, uint32_t hash);
@@ -302,15 +314,15 @@ debug_names_table debug_names_check_table(
 
 /* ---- Entries */
 
-/* The cursor over the entries of a name: kind 1, and the value is the place of its first entry. */
+/* The cursor over the entries of a name: kind 1, and the value is the place of its first entry (a place, not a handle). */
 debug_names_answer debug_names_name_entries(
-    uint32_t order, const uint8_t *section, size_t section_len, debug_names_index index, uint32_t name);
-/* The next entry, from the cursor `at`. */
+    uint32_t order, const uint8_t *section, size_t section_len, debug_names_index index, debug_names_name_index name);
+/* The next entry, from the cursor `at`. After a refusal the next step is the end, but for 13 and 14. */
 debug_names_entry debug_names_next_entry(
     uint32_t order, const uint8_t *section, size_t section_len, debug_names_index index, size_t at);
 /* The entry with a handle. `next` is 0. */
 debug_names_entry debug_names_name_entry(
-    uint32_t order, const uint8_t *section, size_t section_len, debug_names_index index, size_t offset);
+    uint32_t order, const uint8_t *section, size_t section_len, debug_names_index index, debug_names_entry_offset offset);
 
 /* ---- The section query */
 

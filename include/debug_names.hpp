@@ -6,6 +6,9 @@
 // A call answers or refuses, and says so by its `result`. Of the refusals, two can come from any call and are not named again below:
 // 13 (a section has more than 2,147,483,647 bytes) and 14 (an index or a cursor does not fit its section). An index that `headers`
 // answered, over the same bytes, is never refused with 14 once `open` has taken it.
+//
+// The number of a name, the handle of an entry, the offset of a string, a unit or a DIE, and the signature of a type unit have types of their
+// own, which do not mix. Places in .debug_names, counts, hashes and the numbers of units and buckets are plain numbers.
 #ifndef DEBUG_NAMES_HPP
 #define DEBUG_NAMES_HPP
 
@@ -20,6 +23,37 @@
 #include <utility>
 
 namespace debug_names {
+
+// ---- Numbers that do not mix
+
+// A number under a name of its own: it is made only where that name is spelled out, as in name_index(5), and is compared with its own kind
+// alone. `value` is the plain number.
+template <class Name, class Number>
+struct named_number {
+    using value_type = Number;
+
+    Number value = 0;
+
+    constexpr named_number() noexcept = default;
+    constexpr explicit named_number(Number number) noexcept : value(number) {}
+
+    friend constexpr bool operator==(named_number a, named_number b) noexcept { return a.value == b.value; }
+    friend constexpr bool operator!=(named_number a, named_number b) noexcept { return a.value != b.value; }
+    friend constexpr bool operator<(named_number a, named_number b) noexcept { return a.value < b.value; }
+};
+
+// The number of a name in its index, counted from 0.
+using name_index = named_number<struct name_index_name, debug_names_name_index>;
+// The handle of an entry: its offset from the start of the entry pool of its index.
+using entry_offset = named_number<struct entry_offset_name, debug_names_entry_offset>;
+// An offset in .debug_str, where a string begins.
+using str_offset = named_number<struct str_offset_name, debug_names_str_offset>;
+// An offset in .debug_info, where a unit begins.
+using info_offset = named_number<struct info_offset_name, debug_names_info_offset>;
+// The offset of a DIE from the start of its unit.
+using unit_offset = named_number<struct unit_offset_name, debug_names_unit_offset>;
+// The signature of a type unit.
+using type_signature = named_number<struct type_signature_name, debug_names_type_signature>;
 
 // ---- What a call answers
 
@@ -98,7 +132,8 @@ private:
     std::size_t size_ = 0;
 };
 
-// A record of the section query; debug_names.h says what its fields are.
+// A record of the section query: a struct of plain numbers, which C shares; debug_names.h says what its fields are. `name_of` and those
+// beside it give its numbers under their names.
 using record = debug_names_record;
 
 // Lent records, which the section query writes.
@@ -131,10 +166,22 @@ enum class unit_kind : std::uint32_t {
     foreign_type = DEBUG_NAMES_FOREIGN_TYPE_UNIT,
 };
 
-// A unit: the value is its offset in .debug_info, and of a foreign type unit its signature; 0 where there is no unit.
+// A unit: the value is its offset in .debug_info, and of a foreign type unit its signature; 0 where there is no unit. `offset` and
+// `signature` give it under its name.
 struct unit {
     unit_kind kind = unit_kind::none;
     std::uint64_t value = 0;
+
+    // Where a compile unit or a local type unit begins; none for any other kind.
+    constexpr std::optional<info_offset> offset() const noexcept {
+        if (kind != unit_kind::compile && kind != unit_kind::local_type) return std::nullopt;
+        return info_offset(static_cast<info_offset::value_type>(value));
+    }
+    // The signature of a foreign type unit; none for any other kind.
+    constexpr std::optional<type_signature> signature() const noexcept {
+        if (kind != unit_kind::foreign_type) return std::nullopt;
+        return type_signature(value);
+    }
 };
 
 enum class parent_kind : std::uint32_t {
@@ -146,7 +193,7 @@ enum class parent_kind : std::uint32_t {
 // What is known of an entry's parent; the offset is the handle of the parent where that is an entry, else 0.
 struct parent {
     parent_kind kind = parent_kind::not_known;
-    std::uint64_t offset = 0;
+    entry_offset offset{};
 };
 
 enum class table_kind : std::uint32_t {
@@ -160,21 +207,21 @@ enum class table_kind : std::uint32_t {
 struct table {
     table_kind kind = table_kind::none;
     std::uint64_t missed = 0;
-    std::uint32_t name = 0;
+    name_index name{};
     std::uint32_t hash = 0;
 };
 
 // The same with the string of that name, or why it cannot be read.
 struct lost_name {
     std::uint64_t missed = 0;
-    std::uint32_t name = 0;
+    name_index name{};
     std::uint32_t hash = 0;
     result<std::string_view> string{};
 };
 
 // A name of a bucket: its number, and the hash that is stored for it.
 struct bucket_name {
-    std::uint32_t number = 0;
+    name_index number{};
     std::uint32_t hash = 0;
 };
 
@@ -186,25 +233,35 @@ constexpr refusal why(const Answer& answer) noexcept {
     return {answer.status, answer.value};
 }
 
-constexpr result<std::uint64_t> number(const debug_names_answer& answer) noexcept {
-    if (answer.status != DEBUG_NAMES_OK) return why(answer);
-    return answer.value;
+// The value of an answer: a plain number, or one under a name.
+template <class Number>
+constexpr Number number_of(std::uint64_t value) noexcept {
+    if constexpr (std::is_integral_v<Number>) return value;
+    else return Number(static_cast<typename Number::value_type>(value));
 }
 
-constexpr result<std::optional<std::uint64_t>> number_or_none(const debug_names_answer& answer) noexcept {
+template <class Number = std::uint64_t>
+constexpr result<Number> number(const debug_names_answer& answer) noexcept {
     if (answer.status != DEBUG_NAMES_OK) return why(answer);
-    if (answer.kind == DEBUG_NAMES_NONE) return std::optional<std::uint64_t>();
-    return std::optional<std::uint64_t>(answer.value);
+    return number_of<Number>(answer.value);
 }
 
-// A kind with its value: a unit or a parent.
-template <class Pair, class Kind>
-constexpr result<Pair> pair(const debug_names_answer& answer) noexcept {
+template <class Number = std::uint64_t>
+constexpr result<std::optional<Number>> number_or_none(const debug_names_answer& answer) noexcept {
     if (answer.status != DEBUG_NAMES_OK) return why(answer);
-    return Pair{static_cast<Kind>(answer.kind), answer.value};
+    if (answer.kind == DEBUG_NAMES_NONE) return std::optional<Number>();
+    return std::optional<Number>(number_of<Number>(answer.value));
 }
 
-constexpr result<unit> unit_of(const debug_names_answer& answer) noexcept { return pair<unit, unit_kind>(answer); }
+constexpr result<unit> unit_of(const debug_names_answer& answer) noexcept {
+    if (answer.status != DEBUG_NAMES_OK) return why(answer);
+    return unit{static_cast<unit_kind>(answer.kind), answer.value};
+}
+
+constexpr result<parent> parent_of(const debug_names_answer& answer) noexcept {
+    if (answer.status != DEBUG_NAMES_OK) return why(answer);
+    return parent{static_cast<parent_kind>(answer.kind), number_of<entry_offset>(answer.value)};
+}
 
 inline result<std::string_view> string_in(bytes strings, const debug_names_string& found) noexcept {
     if (found.status != DEBUG_NAMES_OK) return why(found);
@@ -304,7 +361,7 @@ public:
     constexpr explicit entry(const debug_names_entry& read) noexcept : read_(read) {}
 
     // Its handle: its offset in the entry pool of its index.
-    constexpr std::uint64_t offset() const noexcept { return read_.value; }
+    constexpr entry_offset offset() const noexcept { return detail::number_of<entry_offset>(read_.value); }
     constexpr std::uint64_t abbrev_code() const noexcept { return read_.abbrev_code; }
     // Its DW_TAG.
     constexpr std::uint32_t tag() const noexcept { return read_.tag; }
@@ -315,13 +372,11 @@ public:
     // The type unit that the entry names, local or foreign; else as `compile_unit`.
     constexpr result<unit> type_unit() const noexcept { return detail::unit_of(read_.facts.type_unit); }
     // The offset of the DIE, from the start of its unit; none where the entry does not say. Refused with 12 at a wrong form.
-    constexpr result<std::optional<std::uint64_t>> die_offset() const noexcept {
-        return detail::number_or_none(read_.facts.die_offset);
+    constexpr result<std::optional<unit_offset>> die_offset() const noexcept {
+        return detail::number_or_none<unit_offset>(read_.facts.die_offset);
     }
     // What is known of the parent. Refused with 12 at a wrong form.
-    constexpr result<debug_names::parent> parent() const noexcept {
-        return detail::pair<debug_names::parent, parent_kind>(read_.facts.parent);
-    }
+    constexpr result<debug_names::parent> parent() const noexcept { return detail::parent_of(read_.facts.parent); }
     // The hash of the type; none where the entry does not say. Refused with 12 at a wrong form.
     constexpr result<std::optional<std::uint64_t>> type_hash() const noexcept {
         return detail::number_or_none(read_.facts.type_hash);
@@ -386,16 +441,16 @@ public:
 
     // ---- Names, by number
 
-    // The numbers of all names, in order, as a range of result<std::uint32_t>.
+    // The numbers of all names, in order, as a range of result<name_index>.
     inline steps<detail::name_walk> names() const noexcept;
     // The offset of the name's string in .debug_str. Refused with 1 at a number that is not below the number of names.
-    result<std::uint64_t> name_string_offset(std::uint32_t name) const noexcept {
-        return detail::number(ask(debug_names_name_string_offset, name));
+    result<str_offset> name_string_offset(name_index name) const noexcept {
+        return detail::number<str_offset>(ask(debug_names_name_string_offset, name.value));
     }
     // The name's string: the caller's own bytes of .debug_str, without the zero byte. Refused as `name_string_offset` is, and with 1
     // where no string that ends with a zero byte stands at the offset.
-    result<std::string_view> name_string(bytes strings, std::uint32_t name) const noexcept {
-        return detail::string_in(strings, section_.ask(debug_names_name_string, strings.data(), strings.size(), handle_, name));
+    result<std::string_view> name_string(bytes strings, name_index name) const noexcept {
+        return detail::string_in(strings, section_.ask(debug_names_name_string, strings.data(), strings.size(), handle_, name.value));
     }
 
     // ---- The hash table
@@ -403,14 +458,14 @@ public:
     // The names of a bucket, as a range of result<bucket_name>. Refused with 1 at a bucket that is not below the number of buckets, and
     // where the bucket starts past the last name.
     inline steps<detail::bucket_walk> find_by_bucket(std::uint32_t bucket) const noexcept;
-    // The numbers of the names for which the hash is stored, as a range of result<std::uint32_t>. Names of the same hash may have other
+    // The numbers of the names for which the hash is stored, as a range of result<name_index>. Names of the same hash may have other
     // strings: compare these. Refused as `find_by_bucket` is for the hash's bucket; so with 1 where there is no hash table.
     inline steps<detail::hash_walk> find_by_hash(std::uint32_t hash) const noexcept;
     // Whether lookups by hash list every name. Refused with 1 where a bucket starts past the last name.
     result<table> check_table() const noexcept {
         const debug_names_table said = ask(debug_names_check_table);
         if (said.status != DEBUG_NAMES_OK) return detail::why(said);
-        return table{static_cast<table_kind>(said.kind), said.value, said.name, said.hash};
+        return table{static_cast<table_kind>(said.kind), said.value, name_index(said.name), said.hash};
     }
     // What `check_table` finds, for a person to start from: the missed name of the smallest number, with its string; none where the table is
     // complete, and where there is no table. Refused as `check_table` is. A string that cannot be read is a refusal inside, so that number
@@ -429,11 +484,11 @@ public:
     // The entries of a name, one after another, as a range of result<entry>. Refused with 1 at a number that is not below the number of
     // names, and where an entry runs past the pool's end; with 8 at a code that is not declared; with 9 at a form that is not known;
     // with 4, 5, 6 or 7 at a bad declaration or number.
-    inline steps<detail::entry_walk> entries(std::uint32_t name) const noexcept;
+    inline steps<detail::entry_walk> entries(name_index name) const noexcept;
     // The entry with a handle. Refused as an entry of `entries` is, with 10 where a series ends at the offset, and with 1 at the pool's
     // end or past it.
-    result<debug_names::entry> entry(std::size_t offset) const noexcept {
-        const debug_names_entry read = ask(debug_names_name_entry, offset);
+    result<debug_names::entry> entry(entry_offset offset) const noexcept {
+        const debug_names_entry read = ask(debug_names_name_entry, offset.value);
         if (read.status != DEBUG_NAMES_OK) return detail::why(read);
         return debug_names::entry(read);
     }
@@ -509,7 +564,7 @@ private:
 
 class name_walk {
 public:
-    using item = std::uint32_t;
+    using item = name_index;
 
     name_walk() noexcept = default;
     explicit name_walk(const index& in) noexcept : count_(in.name_count()) {}
@@ -519,7 +574,7 @@ public:
             out = count_.why();
             return true;
         }
-        out = static_cast<item>(at_);
+        out = number_of<item>(at_);
         return at_++ < *count_;
     }
 
@@ -540,14 +595,14 @@ public:
         last_.status = found.status;
         last_.kind = found.kind;
         last_.value = found.value;
-        last_.next = static_cast<std::uint32_t>(found.value);
+        last_.next = static_cast<debug_names_name_index>(found.value);
     }
 
     bool next(result<item>& out) noexcept {
         if (last_.status == DEBUG_NAMES_OK && last_.kind != DEBUG_NAMES_NONE)
             last_ = index_.ask(debug_names_next_in_bucket, bucket_, last_.next);
         if (last_.status != DEBUG_NAMES_OK) out = why(last_);
-        else out = item{static_cast<std::uint32_t>(last_.value), last_.hash};
+        else out = item{number_of<name_index>(last_.value), last_.hash};
         return last_.status != DEBUG_NAMES_OK || last_.kind != DEBUG_NAMES_NONE;
     }
 
@@ -559,7 +614,7 @@ private:
 
 class hash_walk {
 public:
-    using item = std::uint32_t;
+    using item = name_index;
 
     hash_walk() noexcept = default;
     hash_walk(const index& in, std::uint32_t hash) noexcept : index_(in), last_(in.ask(debug_names_find_by_hash, hash)) {}
@@ -568,7 +623,7 @@ public:
         if (last_.status == DEBUG_NAMES_OK && last_.kind != DEBUG_NAMES_NONE)
             last_ = index_.ask(debug_names_next_by_hash, last_.next);
         if (last_.status != DEBUG_NAMES_OK) out = why(last_);
-        else out = static_cast<item>(last_.value);
+        else out = number_of<item>(last_.value);
         return last_.status != DEBUG_NAMES_OK || last_.kind != DEBUG_NAMES_NONE;
     }
 
@@ -582,8 +637,8 @@ public:
     using item = entry;
 
     entry_walk() noexcept = default;
-    entry_walk(const index& in, std::uint32_t name) noexcept : index_(in) {
-        const debug_names_answer found = in.ask(debug_names_name_entries, name);
+    entry_walk(const index& in, name_index name) noexcept : index_(in) {
+        const debug_names_answer found = in.ask(debug_names_name_entries, name.value);
         last_.status = found.status;
         last_.kind = found.kind;
         last_.value = found.value;
@@ -621,7 +676,7 @@ inline steps<detail::hash_walk> index::find_by_hash(std::uint32_t hash) const no
     return steps<detail::hash_walk>(detail::hash_walk(*this, hash));
 }
 
-inline steps<detail::entry_walk> index::entries(std::uint32_t name) const noexcept {
+inline steps<detail::entry_walk> index::entries(name_index name) const noexcept {
     return steps<detail::entry_walk>(detail::entry_walk(*this, name));
 }
 
@@ -629,8 +684,8 @@ inline steps<detail::entry_walk> index::entries(std::uint32_t name) const noexce
 
 // The string at an offset of .debug_str: the caller's own bytes, without the zero byte. Refused with 1 at an offset past the end, and
 // where no zero byte follows.
-inline result<std::string_view> get_str(bytes strings, std::size_t offset) noexcept {
-    return detail::string_in(strings, debug_names_get_str(strings.data(), strings.size(), offset));
+inline result<std::string_view> get_str(bytes strings, str_offset offset) noexcept {
+    return detail::string_in(strings, debug_names_get_str(strings.data(), strings.size(), offset.value));
 }
 
 // Where the function or type of a name is described, over all indexes of the section: the number of all its entries. The first of them
@@ -644,6 +699,44 @@ inline result<std::uint64_t> query(
     return detail::number(names.ask(debug_names_query, strings.data(), strings.size(), hash, wanted.data(), wanted.size(),
         out.size() == 0 ? &none : out.data(), out.size()));
 }
+
+// The numbers of a record, under their names: its name, the handle of its entry, its unit, and the offset of its DIE, if the entry says it.
+constexpr name_index name_of(const record& r) noexcept { return name_index(r.name); }
+constexpr entry_offset entry_of(const record& r) noexcept { return entry_offset(r.entry_offset); }
+constexpr unit unit_of(const record& r) noexcept { return {static_cast<unit_kind>(r.unit_kind), r.unit_value}; }
+constexpr std::optional<unit_offset> die_offset_of(const record& r) noexcept {
+    return r.has_die_offset == 0 ? std::nullopt : std::optional<unit_offset>(unit_offset(r.die_offset));
+}
+
+// ---- These numbers do not mix
+
+namespace detail {
+
+template <class... Numbers>
+struct numbers {
+    // No plain number is taken for this one, nor this one for a plain number; and of these it is made of itself alone, even where its name is
+    // spelled out.
+    template <class Number>
+    static constexpr bool apart = !std::is_convertible_v<std::uint64_t, Number> && !std::is_convertible_v<Number, std::uint64_t> &&
+        (std::size_t{std::is_constructible_v<Number, Numbers>} + ...) == 1;
+    static constexpr bool all_apart = (apart<Numbers> && ...);
+
+    // Behind `First` the call takes that number, but no plain one and no other of these.
+    template <class Number, class Call, class... First>
+    static constexpr bool only = std::is_invocable_v<Call, First..., Number> && !std::is_invocable_v<Call, First..., std::uint64_t> &&
+        (std::size_t{std::is_invocable_v<Call, First..., Numbers>} + ...) == 1;
+};
+
+using kinds = numbers<name_index, entry_offset, str_offset, info_offset, unit_offset, type_signature>;
+
+static_assert(kinds::all_apart);
+static_assert(kinds::only<name_index, decltype(&index::name_string_offset), const index&>);
+static_assert(kinds::only<name_index, decltype(&index::name_string), const index&, bytes>);
+static_assert(kinds::only<name_index, decltype(&index::entries), const index&>);
+static_assert(kinds::only<entry_offset, decltype(&index::entry), const index&>);
+static_assert(kinds::only<str_offset, decltype(&get_str), bytes>);
+
+} // namespace detail
 
 } // namespace debug_names
 

@@ -132,10 +132,10 @@ fn ask<E>(asked: &[Asked], query: impl Fn(&Asked, &mut [Record]) -> Result<u64, 
 
 /// Adds the numbers of a record to a sum.
 fn add(sum: u64, record: &Record) -> u64 {
-    let places = u64::from(record.index_offset) << 32 | u64::from(record.entry_offset);
+    let places = u64::from(record.index_offset.0) << 32 | u64::from(record.entry_offset.0);
     let small = u64::from(record.tag) << 48 | u64::from(record.unit_kind) << 40 | u64::from(record.has_die_offset) << 32;
-    let sum = sum.rotate_left(7).wrapping_add(places) ^ small ^ u64::from(record.name);
-    sum.rotate_left(7).wrapping_add(record.unit_value).rotate_left(7).wrapping_add(record.die_offset as u64)
+    let sum = sum.rotate_left(7).wrapping_add(places) ^ small ^ u64::from(record.name.0);
+    sum.rotate_left(7).wrapping_add(record.unit_value).rotate_left(7).wrapping_add(record.die_offset.0 as u64)
 }
 
 fn find_by_hash<'a>(sides: Sides<'a>, words: (&'static str, &'static str), hashes: &'a [(usize, u32)]) -> Line<'a> {

@@ -4,7 +4,7 @@
 
 use super::{Entry, Error, Index, NameTableIndex, NameTypeUnit, Names, Strings};
 use crate::input::Asked;
-use debug_names::Record;
+use debug_names::{DebugNamesOffset, NameEntryOffset, Record, UnitOffset};
 use std::hint::black_box;
 
 type Result<T> = std::result::Result<T, Error>;
@@ -101,10 +101,10 @@ fn record<'a>(index: &Index<'a>, place: usize, name: NameTableIndex, entry: &Ent
     let die = entry.die_offset()?;
     Ok(Record {
         unit_value,
-        die_offset: die.map_or(0, |die| die.0),
-        index_offset: place as u32,
-        entry_offset: entry.offset.0 as u32,
-        name: name.0,
+        die_offset: UnitOffset(die.map_or(0, |die| die.0)),
+        index_offset: DebugNamesOffset(place as u32),
+        entry_offset: NameEntryOffset(entry.offset.0 as u32),
+        name: debug_names::NameTableIndex(name.0),
         tag: entry.tag.0,
         unit_kind,
         has_die_offset: die.is_some().into(),

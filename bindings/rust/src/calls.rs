@@ -7,6 +7,7 @@
 use crate::error::{Error, Result};
 use crate::ffi;
 use crate::ffi::{Answer, BucketStep, Entry, HashCursor, HashStep, Header, HeaderStep, IndexHandle, Record, Str, Table};
+use crate::numbers::{DebugStrOffset, NameEntryOffset, NameTableIndex};
 
 /// A section of `.debug_names`, in a byte order: 0 is little, 1 is big.
 #[derive(Debug, Clone, Copy)]
@@ -81,27 +82,27 @@ index_calls! {
     foreign_type_unit: debug_names_foreign_type_unit(number: u32) -> Answer;
     type_unit: debug_names_type_unit(number: u32) -> Answer;
     default_compile_unit: debug_names_default_compile_unit() -> Answer;
-    name_string_offset: debug_names_name_string_offset(name: u32) -> Answer;
+    name_string_offset: debug_names_name_string_offset(name: NameTableIndex) -> Answer;
     find_by_bucket: debug_names_find_by_bucket(bucket: u32) -> Answer;
-    next_in_bucket: debug_names_next_in_bucket(bucket: u32, name: u32) -> BucketStep;
+    next_in_bucket: debug_names_next_in_bucket(bucket: u32, name: NameTableIndex) -> BucketStep;
     find_by_hash: debug_names_find_by_hash(hash: u32) -> HashStep;
     next_by_hash: debug_names_next_by_hash(cursor: HashCursor) -> HashStep;
     check_table: debug_names_check_table() -> Table;
-    name_entries: debug_names_name_entries(name: u32) -> Answer;
+    name_entries: debug_names_name_entries(name: NameTableIndex) -> Answer;
     next_entry: debug_names_next_entry(at: usize) -> Entry;
-    name_entry: debug_names_name_entry(offset: usize) -> Entry;
+    name_entry: debug_names_name_entry(offset: NameEntryOffset) -> Entry;
 }
 
 /// Where the string of a name stands.
 #[inline]
-pub fn name_string(section: Section, strings: &[u8], index: IndexHandle, name: u32) -> Str {
+pub fn name_string(section: Section, strings: &[u8], index: IndexHandle, name: NameTableIndex) -> Str {
     let (bytes, len) = (section.bytes.as_ptr(), section.bytes.len());
     unsafe { ffi::debug_names_name_string(section.order, bytes, len, strings.as_ptr(), strings.len(), index, name) }
 }
 
 /// Where the string at an offset stands.
 #[inline]
-pub fn get_str(strings: &[u8], offset: usize) -> Str {
+pub fn get_str(strings: &[u8], offset: DebugStrOffset) -> Str {
     unsafe { ffi::debug_names_get_str(strings.as_ptr(), strings.len(), offset) }
 }
 

@@ -1,4 +1,4 @@
-//! Numbers under the names that gimli gives them, and byte orders.
+//! Formats and byte orders, under the names that gimli gives them.
 
 use std::fmt::Debug;
 
@@ -27,26 +27,6 @@ impl Format {
         self as u8
     }
 }
-
-/// An offset into the `.debug_info` section.
-#[derive(Debug, Clone, Copy, PartialEq, Eq, Ord, PartialOrd, Hash)]
-pub struct DebugInfoOffset<T = usize>(pub T);
-
-/// An offset into the `.debug_names` section.
-#[derive(Debug, Clone, Copy, PartialEq, Eq, Hash)]
-pub struct DebugNamesOffset<T = usize>(pub T);
-
-/// An offset into the `.debug_str` section.
-#[derive(Debug, Clone, Copy, PartialEq, Eq)]
-pub struct DebugStrOffset<T = usize>(pub T);
-
-/// A type signature.
-#[derive(Debug, Clone, Copy, PartialEq, Eq, Hash)]
-pub struct DebugTypeSignature(pub u64);
-
-/// An offset from the start of a compilation or type unit.
-#[derive(Debug, Clone, Copy, PartialEq, Eq, Ord, PartialOrd, Hash)]
-pub struct UnitOffset<T = usize>(pub T);
 
 /// The byte order of a section.
 pub trait Endianity: Debug + Default + Clone + Copy + PartialEq + Eq {

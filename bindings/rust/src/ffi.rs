@@ -1,4 +1,8 @@
 //! The functions of `libdebug_names.a`, as `include/debug_names.h` declares and describes them.
+//!
+//! A `value` is a plain number, since it also holds what a refusal carries.
+
+use crate::numbers::{DebugNamesOffset, DebugStrOffset, NameEntryOffset, NameTableIndex, UnitOffset};
 
 /// An answer: `status` is 0 or document 01's number of the refusal; `value` is the answer's number, or the refusal's value.
 #[repr(C)]
@@ -65,7 +69,7 @@ pub struct BucketStep {
     pub kind: u32,
     pub value: u64,
     pub hash: u32,
-    pub next: u32,
+    pub next: NameTableIndex,
 }
 
 /// A cursor over the names that store a hash.
@@ -75,7 +79,7 @@ pub struct HashCursor {
     pub hash: u32,
     pub has_bucket: u32,
     pub bucket: u32,
-    pub name: u32,
+    pub name: NameTableIndex,
 }
 
 /// A lookup by hash, or a step of it.
@@ -95,7 +99,7 @@ pub struct Table {
     pub status: u32,
     pub kind: u32,
     pub value: u64,
-    pub name: u32,
+    pub name: NameTableIndex,
     pub hash: u32,
 }
 
@@ -128,10 +132,10 @@ pub struct Entry {
 #[derive(Clone, Copy, Debug, Default, PartialEq, Eq)]
 pub struct Record {
     pub unit_value: u64,
-    pub die_offset: usize,
-    pub index_offset: u32,
-    pub entry_offset: u32,
-    pub name: u32,
+    pub die_offset: UnitOffset,
+    pub index_offset: DebugNamesOffset<u32>,
+    pub entry_offset: NameEntryOffset<u32>,
+    pub name: NameTableIndex,
     pub tag: u16,
     pub unit_kind: u8,
     pub has_die_offset: u8,
@@ -161,19 +165,19 @@ unsafe extern "C" {
     pub fn debug_names_type_unit(order: u32, section: *const u8, section_len: usize, index: IndexHandle, number: u32) -> Answer;
     pub fn debug_names_default_compile_unit(order: u32, section: *const u8, section_len: usize, index: IndexHandle) -> Answer;
 
-    pub fn debug_names_name_string_offset(order: u32, section: *const u8, section_len: usize, index: IndexHandle, name: u32) -> Answer;
-    pub fn debug_names_name_string(order: u32, section: *const u8, section_len: usize, strings: *const u8, strings_len: usize, index: IndexHandle, name: u32) -> Str;
-    pub fn debug_names_get_str(strings: *const u8, strings_len: usize, offset: usize) -> Str;
+    pub fn debug_names_name_string_offset(order: u32, section: *const u8, section_len: usize, index: IndexHandle, name: NameTableIndex) -> Answer;
+    pub fn debug_names_name_string(order: u32, section: *const u8, section_len: usize, strings: *const u8, strings_len: usize, index: IndexHandle, name: NameTableIndex) -> Str;
+    pub fn debug_names_get_str(strings: *const u8, strings_len: usize, offset: DebugStrOffset) -> Str;
 
     pub fn debug_names_find_by_bucket(order: u32, section: *const u8, section_len: usize, index: IndexHandle, bucket: u32) -> Answer;
-    pub fn debug_names_next_in_bucket(order: u32, section: *const u8, section_len: usize, index: IndexHandle, bucket: u32, name: u32) -> BucketStep;
+    pub fn debug_names_next_in_bucket(order: u32, section: *const u8, section_len: usize, index: IndexHandle, bucket: u32, name: NameTableIndex) -> BucketStep;
     pub fn debug_names_find_by_hash(order: u32, section: *const u8, section_len: usize, index: IndexHandle, hash: u32) -> HashStep;
     pub fn debug_names_next_by_hash(order: u32, section: *const u8, section_len: usize, index: IndexHandle, cursor: HashCursor) -> HashStep;
     pub fn debug_names_check_table(order: u32, section: *const u8, section_len: usize, index: IndexHandle) -> Table;
 
-    pub fn debug_names_name_entries(order: u32, section: *const u8, section_len: usize, index: IndexHandle, name: u32) -> Answer;
+    pub fn debug_names_name_entries(order: u32, section: *const u8, section_len: usize, index: IndexHandle, name: NameTableIndex) -> Answer;
     pub fn debug_names_next_entry(order: u32, section: *const u8, section_len: usize, index: IndexHandle, at: usize) -> Entry;
-    pub fn debug_names_name_entry(order: u32, section: *const u8, section_len: usize, index: IndexHandle, offset: usize) -> Entry;
+    pub fn debug_names_name_entry(order: u32, section: *const u8, section_len: usize, index: IndexHandle, offset: NameEntryOffset) -> Entry;
 
     pub fn debug_names_query(order: u32, section: *const u8, section_len: usize, strings: *const u8, strings_len: usize, hash: u32, name: *const u8, name_len: usize, records: *mut Record, records_len: usize) -> Answer;
 }

@@ -50,6 +50,7 @@ mod error;
 #[allow(dead_code)]
 mod ffi;
 mod names;
+mod numbers;
 mod query;
 mod str;
 
@@ -57,6 +58,7 @@ pub use common::*;
 pub use constants::*;
 pub use error::*;
 pub use names::*;
+pub use numbers::*;
 pub use query::*;
 pub use str::*;
 

@@ -1,10 +1,11 @@
 //! The `.debug_names` section: gimli's types and methods over the library's calls.
 
 use crate::calls::{self, Outcome, Section};
-use crate::common::{DebugInfoOffset, DebugNamesOffset, DebugStrOffset, DebugTypeSignature, Endianity, Format, UnitOffset};
+use crate::common::{Endianity, Format};
 use crate::constants::DwTag;
 use crate::error::Result;
 use crate::ffi::{self, Answer, Facts, HashCursor, IndexHandle};
+use crate::numbers::{DebugInfoOffset, DebugNamesOffset, DebugStrOffset, DebugTypeSignature, NameEntryOffset, NameTableIndex, UnitOffset};
 use crate::query::Record;
 use crate::str::DebugStr;
 
@@ -158,10 +159,6 @@ impl<'a> NameIndexHeader<'a> {
     }
 }
 
-/// An index into the name table of a `NameIndex`, counted from 0.
-#[derive(Debug, Clone, Copy, PartialEq, Eq)]
-pub struct NameTableIndex(pub u32);
-
 /// A reference to a type unit.
 #[derive(Debug, Clone, Copy, PartialEq, Eq)]
 pub enum NameTypeUnit<T = usize> {
@@ -300,7 +297,7 @@ impl<'a> NameIndex<'a> {
     pub fn find_by_bucket(&self, bucket_index: u32) -> Result<Option<NameBucketIter<'_>>> {
         let first = calls::find_by_bucket(self.section, self.handle, bucket_index);
         first.check()?;
-        let names = NameBucketIter { index: self, bucket: bucket_index, name: first.value as u32 };
+        let names = NameBucketIter { index: self, bucket: bucket_index, name: name(first.value) };
         Ok(is_there(first.kind).then_some(names))
     }
 
@@ -320,7 +317,7 @@ impl<'a> NameIndex<'a> {
             0 => TableCheck::NoTable,
             1 => TableCheck::Complete,
             // No more names are missed than there are, and their number has 32 bits.
-            _ => TableCheck::Incomplete(Incomplete { missed: check.value as u32, name: NameTableIndex(check.name), hash: check.hash }),
+            _ => TableCheck::Incomplete(Incomplete { missed: check.value as u32, name: check.name, hash: check.hash }),
         })
     }
 
@@ -352,7 +349,7 @@ impl<'a> NameIndex<'a> {
     /// The `.debug_str` offset of a name's string.
     #[inline]
     pub fn name_string_offset(&self, index: NameTableIndex) -> Result<DebugStrOffset> {
-        let offset = calls::name_string_offset(self.section, self.handle, index.0);
+        let offset = calls::name_string_offset(self.section, self.handle, index);
         offset.check()?;
         Ok(DebugStrOffset(offset.value as usize))
     }
@@ -360,13 +357,13 @@ impl<'a> NameIndex<'a> {
     /// A name's string, without its zero byte: the caller's own bytes of `.debug_str`.
     #[inline]
     pub fn name_string<'s>(&self, index: NameTableIndex, debug_str: &DebugStr<'s>) -> Result<&'s [u8]> {
-        debug_str.part(&calls::name_string(self.section, debug_str.bytes, self.handle, index.0))
+        debug_str.part(&calls::name_string(self.section, debug_str.bytes, self.handle, index))
     }
 
     /// Iterate over the series of entries of a name.
     #[inline]
     pub fn name_entries(&self, index: NameTableIndex) -> Result<NameEntryIter<'_>> {
-        let first = calls::name_entries(self.section, self.handle, index.0);
+        let first = calls::name_entries(self.section, self.handle, index);
         first.check()?;
         Ok(NameEntryIter { index: self, at: first.value as usize })
     }
@@ -374,7 +371,7 @@ impl<'a> NameIndex<'a> {
     /// The entry at an offset of the entry pool, as a parent has it.
     #[inline]
     pub fn name_entry(&self, offset: NameEntryOffset) -> Result<NameEntry> {
-        let entry = calls::name_entry(self.section, self.handle, offset.0);
+        let entry = calls::name_entry(self.section, self.handle, offset);
         entry.check()?;
         Ok(NameEntry::new(&entry))
     }
@@ -408,7 +405,7 @@ impl Iterator for NameTableIter {
 pub struct NameBucketIter<'a> {
     index: &'a NameIndex<'a>,
     bucket: u32,
-    name: u32,
+    name: NameTableIndex,
 }
 
 impl NameBucketIter<'_> {
@@ -419,7 +416,7 @@ impl NameBucketIter<'_> {
         let step = calls::next_in_bucket(self.index.section, self.index.handle, self.bucket, self.name);
         step.check()?;
         self.name = step.next;
-        Ok(is_there(step.kind).then_some((NameTableIndex(step.value as u32), step.hash)))
+        Ok(is_there(step.kind).then_some((name(step.value), step.hash)))
     }
 }
 
@@ -439,14 +436,14 @@ pub struct NameHashIter<'a> {
     hash: u32,
     /// None where the bucket of the hash is empty.
     bucket: Option<u32>,
-    name: usize,
+    name: NameTableIndex,
 }
 
 impl<'a> NameHashIter<'a> {
     #[inline]
     fn new(index: &'a NameIndex<'a>, cursor: &HashCursor) -> Self {
         let bucket = is_there(cursor.has_bucket).then_some(cursor.bucket);
-        NameHashIter { index, hash: cursor.hash, bucket, name: cursor.name as usize }
+        NameHashIter { index, hash: cursor.hash, bucket, name: cursor.name }
     }
 
     /// The next name table index.
@@ -456,12 +453,12 @@ impl<'a> NameHashIter<'a> {
         let Some(bucket) = self.bucket else {
             return Ok(None);
         };
-        let cursor = HashCursor { hash: self.hash, has_bucket: 1, bucket, name: self.name as u32 };
+        let cursor = HashCursor { hash: self.hash, has_bucket: 1, bucket, name: self.name };
         let step = calls::next_by_hash(self.index.section, self.index.handle, cursor);
         step.check()?;
         // The hash and the bucket stay as they are.
-        self.name = step.next.name as usize;
-        Ok(is_there(step.kind).then_some(NameTableIndex(step.value as u32)))
+        self.name = step.next.name;
+        Ok(is_there(step.kind).then_some(name(step.value)))
     }
 }
 
@@ -501,10 +498,6 @@ impl Iterator for NameEntryIter<'_> {
         NameEntryIter::next(self).transpose()
     }
 }
-
-/// An offset into the entry pool of a name index.
-#[derive(Debug, Clone, Copy, PartialEq, Eq, Ord, PartialOrd, Hash)]
-pub struct NameEntryOffset<T = usize>(pub T);
 
 /// An entry of a name index, with its facts.
 #[derive(Debug, Clone, PartialEq, Eq)]
@@ -580,6 +573,12 @@ impl NameEntry {
 #[inline]
 fn is_there(kind: u32) -> bool {
     kind != 0
+}
+
+/// The name of an answer's value.
+#[inline]
+fn name(value: u64) -> NameTableIndex {
+    NameTableIndex(value as u32)
 }
 
 #[inline]

@@ -1,11 +1,10 @@
 //! The records of the section query, which gimli does not have.
 
-use crate::common::{DebugInfoOffset, DebugNamesOffset, DebugTypeSignature, UnitOffset};
 use crate::constants::DwTag;
-use crate::names::{NameEntryOffset, NameTableIndex};
+use crate::numbers::{DebugInfoOffset, DebugNamesOffset, DebugTypeSignature, NameEntryOffset, NameTableIndex, UnitOffset};
 
-/// Where an entry stands and what it describes, as [`DebugNames::query`](crate::DebugNames::query) writes it: its numbers are public
-/// fields, and the methods give them under their names.
+/// Where an entry stands and what it describes, as [`DebugNames::query`](crate::DebugNames::query) writes it: its fields are public and lie
+/// as C has them, and the methods give the numbers that the other calls take.
 pub use crate::ffi::Record;
 
 /// The unit that the DIE of a record belongs to: the type unit that its entry names, else the compilation unit that it names, else the only
@@ -26,17 +25,17 @@ pub enum RecordUnit {
 impl Record {
     /// The place of the index's header.
     pub fn index(&self) -> DebugNamesOffset {
-        DebugNamesOffset(self.index_offset as usize)
+        DebugNamesOffset(self.index_offset.0 as usize)
     }
 
     /// The entry's offset in the pool of its index.
     pub fn entry(&self) -> NameEntryOffset {
-        NameEntryOffset(self.entry_offset as usize)
+        NameEntryOffset(self.entry_offset.0 as usize)
     }
 
     /// The name's number in its index.
     pub fn name(&self) -> NameTableIndex {
-        NameTableIndex(self.name)
+        self.name
     }
 
     /// The DIE tag.
@@ -57,6 +56,6 @@ impl Record {
 
     /// The offset of the DIE from the start of the unit, if the entry says it.
     pub fn die_offset(&self) -> Option<UnitOffset> {
-        (self.has_die_offset != 0).then_some(UnitOffset(self.die_offset))
+        (self.has_die_offset != 0).then_some(self.die_offset)
     }
 }

@@ -1,9 +1,10 @@
 //! The strings of `.debug_str`.
 
 use crate::calls::{self, Outcome};
-use crate::common::{DebugStrOffset, Endianity};
+use crate::common::Endianity;
 use crate::error::Result;
 use crate::ffi::Str;
+use crate::numbers::DebugStrOffset;
 
 /// The strings of the `.debug_str` section.
 #[derive(Debug, Default, Clone, Copy)]
@@ -20,7 +21,7 @@ impl<'a> DebugStr<'a> {
     /// The string at an offset, without its zero byte: the caller's own bytes.
     #[inline]
     pub fn get_str(&self, offset: DebugStrOffset) -> Result<&'a [u8]> {
-        self.part(&calls::get_str(self.bytes, offset.0))
+        self.part(&calls::get_str(self.bytes, offset))
     }
 
     /// The bytes of a string that the library found.

@@ -312,7 +312,8 @@ fn a_table_that_does_not_open() {
 
 #[test]
 fn query() {
-    let expected = Record { entry_offset: 6, name: 1, tag: 0x2e, unit_kind: 1, has_die_offset: 1, die_offset: 0x20, ..Record::default() };
+    let (entry_offset, name, die_offset) = (NameEntryOffset(6), NameTableIndex(1), UnitOffset(0x20));
+    let expected = Record { entry_offset, name, tag: 0x2e, unit_kind: 1, has_die_offset: 1, die_offset, ..Record::default() };
     let untouched = Record { unit_value: 77, ..Record::default() };
     for order in [RunTimeEndian::Little, RunTimeEndian::Big] {
         let bytes = CaseA::new(order).bytes();

@@ -3,6 +3,7 @@
 use crate::copy;
 use crate::desk::{Desk, refused};
 use crate::layout::Layout;
+use crate::numbers;
 use crate::tally::Call;
 use crate::twin::{Twin, View, bytes_left, refused_entry};
 use gimli::lent::Bytes;
@@ -37,7 +38,8 @@ fn series(desk: &mut Desk, twin: &Twin, number: u32, parents: &mut Vec<usize>) {
     let end = desk.index.end;
     let place = |cursor: &NameEntryIter<Bytes>| (1, (end - bytes_left(cursor)) as u64);
     let expected = twin.view.answer(answer.as_ref().map_err(|error| *error), place);
-    desk.same(Call::NameEntries, || format!("name {number}"), desk.ours.name_entries(desk.index, number), expected);
+    let ours = desk.ours.name_entries(desk.index, numbers::NameTableIndex(number));
+    desk.same(Call::NameEntries, || format!("name {number}"), ours, expected);
     if let Ok(cursor) = answer {
         steps(desk, twin, expected.value as usize, cursor, parents);
     }
@@ -74,7 +76,8 @@ fn handles(desk: &mut Desk, twin: &Twin, len: usize, parents: &[usize]) {
     for offset in offsets {
         let answer = twin.index.name_entry(NameEntryOffset(offset));
         let expected = twin.entry(answer.map(Some), 0);
-        desk.same(Call::NameEntry, || format!("offset {offset}"), desk.ours.name_entry(desk.index, offset), expected);
+        let ours = desk.ours.name_entry(desk.index, numbers::NameEntryOffset(offset));
+        desk.same(Call::NameEntry, || format!("offset {offset}"), ours, expected);
     }
 }
 

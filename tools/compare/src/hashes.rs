@@ -2,6 +2,7 @@
 
 use crate::desk::Desk;
 use crate::ffi::{Answer, BucketStep, HashCursor, HashStep, Table};
+use crate::numbers;
 use crate::tally::Call;
 use crate::twin::Twin;
 use gimli::hashes::{first_name, missed, stored};
@@ -42,7 +43,9 @@ fn check(desk: &mut Desk, twin: &Twin, stored: &[u32]) {
     let expected = match answer.as_ref().map(Option::as_deref) {
         Ok(None) => Table::default(),
         Ok(Some([])) => Table { kind: 1, ..Table::default() },
-        Ok(Some(missed @ [(name, hash), ..])) => Table { status: 0, kind: 2, value: missed.len() as u64, name: name.0, hash: *hash },
+        Ok(Some(missed @ [(name, hash), ..])) => {
+            Table { status: 0, kind: 2, value: missed.len() as u64, name: numbers::NameTableIndex(name.0), hash: *hash }
+        }
         Err(error) => {
             let Answer { status, value, .. } = twin.view.refusal(*error);
             Table { status, value, ..Table::default() }
@@ -74,14 +77,14 @@ fn asked(desk: &mut Desk, twin: &Twin, stored: &[u32]) -> Vec<u32> {
 }
 
 /// The number of the name before which a cursor of gimli's stands. It is not public: it is in gimli's text for debugging.
-fn name_of(cursor: &impl Debug) -> Option<u32> {
-    first_name(&format!("{cursor:?}")).parse().ok()
+fn name_of(cursor: &impl Debug) -> Option<numbers::NameTableIndex> {
+    first_name(&format!("{cursor:?}")).parse().ok().map(numbers::NameTableIndex)
 }
 
 /// The lookup of a bucket, and its steps.
 fn by_bucket(desk: &mut Desk, twin: &Twin, bucket: u32) {
     let answer = twin.index.find_by_bucket(bucket);
-    let cursor = |cursor: &Option<NameBucketIter<Bytes>>| cursor.as_ref().and_then(name_of).map_or((0, 0), |name| (1, name.into()));
+    let cursor = |cursor: &Option<NameBucketIter<Bytes>>| cursor.as_ref().and_then(name_of).map_or((0, 0), |name| (1, name.0.into()));
     let expected = twin.view.answer(answer.as_ref().map_err(|error| *error), cursor);
     desk.same(Call::FindByBucket, || format!("bucket {bucket}"), desk.ours.find_by_bucket(desk.index, bucket), expected);
     if let Ok(Some(cursor)) = answer {
@@ -91,11 +94,11 @@ fn by_bucket(desk: &mut Desk, twin: &Twin, bucket: u32) {
 
 /// Each step from the cursor that our last one handed back.
 fn bucket_steps(desk: &mut Desk, twin: &Twin, bucket: u32, first: u32, mut cursor: NameBucketIter<Bytes>) {
-    let mut name = first;
+    let mut name = numbers::NameTableIndex(first);
     let mut ends = 0;
     for _ in 0..STEPS {
         let answer = cursor.next();
-        let next = name_of(&cursor).unwrap_or(0);
+        let next = name_of(&cursor).unwrap_or_default();
         let expected = match answer {
             Ok(Some((number, hash))) => BucketStep { status: 0, kind: 1, value: number.0.into(), hash, next },
             Ok(None) => BucketStep { next, ..BucketStep::default() },
@@ -105,7 +108,7 @@ fn bucket_steps(desk: &mut Desk, twin: &Twin, bucket: u32, first: u32, mut curso
             }
         };
         let ours = desk.ours.next_in_bucket(desk.index, bucket, name);
-        desk.same(Call::NextInBucket, || format!("bucket {bucket} name {name}"), ours, expected);
+        desk.same(Call::NextInBucket, || format!("bucket {bucket} name {}", name.0), ours, expected);
         name = ours.next;
         if !go_on(desk, expected.kind == 1, &mut ends) {
             return;
@@ -159,7 +162,7 @@ fn hash_steps(desk: &mut Desk, twin: &Twin, hash: u32, first: HashCursor, mut cu
             Ok(None) => HashStep { next, ..HashStep::default() },
             Err(error) => {
                 let Answer { status, value, .. } = twin.view.refusal(error);
-                HashStep { status, value, next, ..HashStep::default() }
+                HashStep { status, value, next: at, ..HashStep::default() }
             }
         };
         let ours = desk.ours.next_by_hash(desk.index, at);
@@ -171,24 +174,25 @@ fn hash_steps(desk: &mut Desk, twin: &Twin, hash: u32, first: HashCursor, mut cu
     }
 }
 
-/// A step of a bucket cursor, by document 01's words: gimli makes no cursor at any name. The last is the number after it.
-fn bucket_step(twin: &Twin, stored: &[u32], bucket: u32, name: u32) -> (Option<u32>, u32) {
-    match stored.get(name as usize) {
+/// A step of a bucket cursor, by document 01's words: gimli makes no cursor at any name. The last is the name after it.
+fn bucket_step(twin: &Twin, stored: &[u32], bucket: u32, name: numbers::NameTableIndex) -> (Option<u32>, numbers::NameTableIndex) {
+    let next = || numbers::NameTableIndex(name.0 + 1);
+    match stored.get(name.0 as usize) {
         None => (None, name),
-        Some(hash) if hash % twin.index.bucket_count() == bucket => (Some(*hash), name + 1),
-        Some(_) => (None, name + 1),
+        Some(hash) if hash % twin.index.bucket_count() == bucket => (Some(*hash), next()),
+        Some(_) => (None, next()),
     }
 }
 
 /// A bucket and a name, each most often one that there is.
-fn any_place(desk: &mut Desk, twin: &Twin) -> (u32, u32) {
+fn any_place(desk: &mut Desk, twin: &Twin) -> (u32, numbers::NameTableIndex) {
     let random = &mut desk.random;
     let mut number = |count: u32| match random.below(6) {
         0 => count,
         1 => random.pick(&[count.wrapping_add(1), count.wrapping_sub(1), u32::MAX, 0x4000_0000]),
         _ => random.below(count.max(1) as usize) as u32,
     };
-    (number(twin.index.bucket_count()), number(twin.index.name_count()))
+    (number(twin.index.bucket_count()), numbers::NameTableIndex(number(twin.index.name_count())))
 }
 
 /// A step of a bucket cursor of any numbers.
@@ -198,12 +202,12 @@ fn any_bucket_cursor(desk: &mut Desk, twin: &Twin, stored: &[u32]) {
         BucketStep { status: 14, next: name, ..BucketStep::default() }
     } else {
         match bucket_step(twin, stored, bucket, name) {
-            (Some(hash), next) => BucketStep { status: 0, kind: 1, value: name.into(), hash, next },
+            (Some(hash), next) => BucketStep { status: 0, kind: 1, value: name.0.into(), hash, next },
             (None, next) => BucketStep { next, ..BucketStep::default() },
         }
     };
     let ours = desk.ours.next_in_bucket(desk.index, bucket, name);
-    desk.same(Call::NextInBucket, || format!("bucket {bucket} name {name}"), ours, expected);
+    desk.same(Call::NextInBucket, || format!("bucket {bucket} name {}", name.0), ours, expected);
 }
 
 /// A step of a hash cursor of any numbers.
@@ -219,22 +223,22 @@ fn any_hash_cursor(desk: &mut Desk, twin: &Twin, stored: &[u32]) {
     desk.same(Call::NextByHash, || format!("{cursor:?}"), ours, hash_step(twin, stored, cursor));
 }
 
-/// The cursor as it comes back: a bucket cursor or none.
-pub fn normal(cursor: HashCursor) -> HashCursor {
+/// The cursor as it comes back from a step that is not refused: a bucket cursor or none.
+fn normal(cursor: HashCursor) -> HashCursor {
     match cursor.has_bucket {
         0 => HashCursor { hash: cursor.hash, ..HashCursor::default() },
         _ => HashCursor { has_bucket: 1, ..cursor },
     }
 }
 
-/// A step of a hash cursor, by document 01's words.
-fn hash_step(twin: &Twin, stored: &[u32], cursor: HashCursor) -> HashStep {
-    let mut cursor = normal(cursor);
+/// A step of a hash cursor, by document 01's words. A refused one hands back the caller's cursor, number by number.
+fn hash_step(twin: &Twin, stored: &[u32], from: HashCursor) -> HashStep {
+    let mut cursor = normal(from);
     if cursor.has_bucket == 0 {
         return HashStep { next: cursor, ..HashStep::default() };
     }
     if cursor.bucket >= twin.index.bucket_count() {
-        return HashStep { status: 14, next: cursor, ..HashStep::default() };
+        return HashStep { status: 14, next: from, ..HashStep::default() };
     }
     loop {
         let name = cursor.name;
@@ -243,7 +247,7 @@ fn hash_step(twin: &Twin, stored: &[u32], cursor: HashCursor) -> HashStep {
         match found {
             None => return HashStep { next: cursor, ..HashStep::default() },
             Some(hash) if hash == cursor.hash => {
-                return HashStep { status: 0, kind: 1, value: name.into(), next: cursor };
+                return HashStep { status: 0, kind: 1, value: name.0.into(), next: cursor };
             }
             Some(_) => {}
         }

@@ -4,6 +4,7 @@ use crate::desk::{Desk, refused};
 use crate::ffi::{Header, HeaderStep, IndexHandle, Record, Str};
 use crate::misfits;
 use crate::name::Name;
+use crate::numbers::{DebugStrOffset, NameTableIndex};
 use crate::tally::{Call, Tally};
 use gimli::bytes::Order;
 use gimli::case::Case;
@@ -59,11 +60,11 @@ fn long_strings(desk: &mut Desk, zeros: &'static [u8]) {
     desk.ours.strings = zeros;
     let refused = Str { status: 13, ..Str::default() };
     for offset in [0, LONGEST, LONGEST + 1, usize::MAX] {
-        desk.same(Call::GetStr, || format!("offset {offset}"), desk.ours.get_str(offset), refused);
+        desk.same(Call::GetStr, || format!("offset {offset}"), desk.ours.get_str(DebugStrOffset(offset)), refused);
     }
     for index in [IndexHandle { format: 4, ..IndexHandle::default() }, IndexHandle::default()] {
         desk.index = index;
-        desk.same(Call::NameString, || "name 0".to_string(), desk.ours.name_string(index, 0), refused);
+        desk.same(Call::NameString, || "name 0".to_string(), desk.ours.name_string(index, NameTableIndex(0)), refused);
     }
     query(desk);
     desk.ours.strings = &[];
@@ -90,6 +91,6 @@ fn longest(desk: &mut Desk, zeros: &'static [u8]) {
     let found = |value: usize| Str { status: 0, kind: 1, value: value as u64, len: 0 };
     let refused = |value: usize| Str { status: 1, value: value as u64, ..Str::default() };
     for (offset, string) in [(0, found(0)), (LONGEST - 1, found(LONGEST - 1)), (LONGEST, refused(LONGEST)), (LONGEST + 1, refused(0))] {
-        desk.same(Call::GetStr, || format!("offset {offset}"), desk.ours.get_str(offset), string);
+        desk.same(Call::GetStr, || format!("offset {offset}"), desk.ours.get_str(DebugStrOffset(offset)), string);
     }
 }

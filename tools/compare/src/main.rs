@@ -3,11 +3,11 @@
 //!     tools/compare/run [--seed N] [--only K] [COUNT]
 //!
 //! README.md has the whole. What is where: `arguments`, the words of the command; `sections`, section K of a seed; `ffi`, the functions of
-//! the library, and `ours`, these on a lent section; `twin`, gimli on an index, with its answers in the form of ours; `layout`, where the
-//! parts of an index lie and whether it fits; `handles`, handles with wrong numbers; `copy`, a section made for any handle, so that gimli
-//! can read it; `desk`, where two answers are compared; `name`, the files of a section that is saved; `watch`, for a library that crashes
-//! or hangs; `tally`, what was met. The calls: `headers`, `indexes`, `units`, `names`, `hashes`, `entries` and `query`; `misfits`, those on
-//! handles that do not fit; `limits`, those on sections that are too long.
+//! the library, `numbers`, the types of the numbers that they take, and `ours`, these functions on a lent section; `twin`, gimli on an index,
+//! with its answers in the form of ours; `layout`, where the parts of an index lie and whether it fits; `handles`, handles with wrong numbers;
+//! `copy`, a section made for any handle, so that gimli can read it; `desk`, where two answers are compared; `name`, the files of a section
+//! that is saved; `watch`, for a library that crashes or hangs; `tally`, what was met. The calls: `headers`, `indexes`, `units`, `names`,
+//! `hashes`, `entries` and `query`; `misfits`, those on handles that do not fit; `limits`, those on sections that are too long.
 
 mod arguments;
 mod copy;
@@ -24,6 +24,10 @@ mod limits;
 mod misfits;
 mod name;
 mod names;
+// Two of its types no call takes: an offset in .debug_info and a type signature are only answered, as a `value`.
+#[allow(dead_code)]
+#[path = "../../../bindings/rust/src/numbers.rs"]
+mod numbers;
 mod ours;
 mod query;
 mod sections;

@@ -2,7 +2,7 @@
 
 use crate::desk::{Desk, refused};
 use crate::ffi::{Answer, BucketStep, HashCursor, HashStep, IndexHandle, Str, Table};
-use crate::hashes::normal;
+use crate::numbers::{NameEntryOffset, NameTableIndex};
 use crate::ours::Ours;
 use crate::tally::Call;
 use crate::twin::refused_entry;
@@ -23,9 +23,9 @@ const CALLS: [(Call, Numbered); 15] = [
     (Call::ForeignTypeUnit, |ours, index, number| ours.foreign_type_unit(index, number)),
     (Call::TypeUnit, |ours, index, number| ours.type_unit(index, number)),
     (Call::DefaultCompileUnit, |ours, index, _| ours.default_compile_unit(index)),
-    (Call::NameStringOffset, |ours, index, number| ours.name_string_offset(index, number)),
+    (Call::NameStringOffset, |ours, index, number| ours.name_string_offset(index, NameTableIndex(number))),
     (Call::FindByBucket, |ours, index, number| ours.find_by_bucket(index, number)),
-    (Call::NameEntries, |ours, index, number| ours.name_entries(index, number)),
+    (Call::NameEntries, |ours, index, number| ours.name_entries(index, NameTableIndex(number))),
 ];
 
 /// Every call but `open` is refused with that number and no value, and cursors stay as they were.
@@ -36,17 +36,18 @@ pub fn refuse_all(desk: &mut Desk, status: u32) {
     for (call, ask) in CALLS {
         desk.same(call, words, ask(&ours, index, number), refused(status));
     }
-    desk.same(Call::NameString, words, ours.name_string(index, number), Str { status, ..Str::default() });
-    let step = BucketStep { status, next: number, ..BucketStep::default() };
-    desk.same(Call::NextInBucket, words, ours.next_in_bucket(index, number, number), step);
+    let name = NameTableIndex(number);
+    desk.same(Call::NameString, words, ours.name_string(index, name), Str { status, ..Str::default() });
+    let step = BucketStep { status, next: name, ..BucketStep::default() };
+    desk.same(Call::NextInBucket, words, ours.next_in_bucket(index, number, name), step);
     let lookup = HashStep { status, ..HashStep::default() };
     desk.same(Call::FindByHash, words, ours.find_by_hash(index, number), lookup);
     desk.same(Call::CheckTable, words, ours.check_table(index), Table { status, ..Table::default() });
-    let cursor = HashCursor { hash: number, has_bucket: desk.random.pick(&[1, 1, 0, 2]), bucket: 3, name: number };
-    let step = HashStep { status, next: normal(cursor), ..HashStep::default() };
+    let cursor = HashCursor { hash: number, has_bucket: desk.random.pick(&[1, 1, 0, 2]), bucket: 3, name };
+    let step = HashStep { status, next: cursor, ..HashStep::default() };
     desk.same(Call::NextByHash, || format!("{cursor:?}"), ours.next_by_hash(index, cursor), step);
     let at = desk.random.pick(&[index.begin, index.end, number as usize, usize::MAX]);
     let words = || format!("at {at}");
     desk.same(Call::NextEntry, words, ours.next_entry(index, at), refused_entry(refused(status), at));
-    desk.same(Call::NameEntry, words, ours.name_entry(index, at), refused_entry(refused(status), 0));
+    desk.same(Call::NameEntry, words, ours.name_entry(index, NameEntryOffset(at)), refused_entry(refused(status), 0));
 }

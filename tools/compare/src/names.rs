@@ -1,6 +1,7 @@
 //! The names of an index, and the strings of .debug_str.
 
 use crate::desk::Desk;
+use crate::numbers;
 use crate::tally::Call;
 use crate::twin::Twin;
 use gimli::{DebugStr, DebugStrOffset, NameTableIndex};
@@ -12,11 +13,12 @@ const FIRST: usize = 6;
 pub fn names(desk: &mut Desk, twin: &Twin) {
     let strings = DebugStr::from(twin.view.lent.strings);
     for number in desk.numbers(twin.index.name_count()) {
-        let (name, words) = (NameTableIndex(number), || format!("name {number}"));
-        let offset = twin.view.answer(twin.index.name_string_offset(name), |offset| (1, offset.0 as u64));
-        desk.same(Call::NameStringOffset, words, desk.ours.name_string_offset(desk.index, number), offset);
-        let string = twin.view.string(twin.index.name_string(name, &strings));
-        desk.same(Call::NameString, words, desk.ours.name_string(desk.index, number), string);
+        let words = || format!("name {number}");
+        let (name, theirs) = (numbers::NameTableIndex(number), NameTableIndex(number));
+        let offset = twin.view.answer(twin.index.name_string_offset(theirs), |offset| (1, offset.0 as u64));
+        desk.same(Call::NameStringOffset, words, desk.ours.name_string_offset(desk.index, name), offset);
+        let string = twin.view.string(twin.index.name_string(theirs, &strings));
+        desk.same(Call::NameString, words, desk.ours.name_string(desk.index, name), string);
     }
 }
 
@@ -30,6 +32,6 @@ pub fn strings(desk: &mut Desk) {
     offsets.push(desk.random.pick(&[usize::MAX, 1 << 63, 1 << 32, 1 << 31]));
     for offset in offsets {
         let string = view.string(strings.get_str(DebugStrOffset(offset)));
-        desk.same(Call::GetStr, || format!("offset {offset}"), desk.ours.get_str(offset), string);
+        desk.same(Call::GetStr, || format!("offset {offset}"), desk.ours.get_str(numbers::DebugStrOffset(offset)), string);
     }
 }

@@ -1,6 +1,7 @@
 //! The functions of the library on a lent section.
 
 use crate::ffi::*;
+use crate::numbers::{DebugStrOffset, NameEntryOffset, NameTableIndex};
 
 /// What is lent: .debug_names in a byte order, and .debug_str.
 #[derive(Clone, Copy)]
@@ -54,23 +55,23 @@ impl Ours<'_> {
         foreign_type_unit debug_names_foreign_type_unit(number: u32) -> Answer
         type_unit debug_names_type_unit(number: u32) -> Answer
         default_compile_unit debug_names_default_compile_unit() -> Answer
-        name_string_offset debug_names_name_string_offset(name: u32) -> Answer
+        name_string_offset debug_names_name_string_offset(name: NameTableIndex) -> Answer
         find_by_bucket debug_names_find_by_bucket(bucket: u32) -> Answer
-        next_in_bucket debug_names_next_in_bucket(bucket: u32, name: u32) -> BucketStep
+        next_in_bucket debug_names_next_in_bucket(bucket: u32, name: NameTableIndex) -> BucketStep
         find_by_hash debug_names_find_by_hash(hash: u32) -> HashStep
         next_by_hash debug_names_next_by_hash(cursor: HashCursor) -> HashStep
         check_table debug_names_check_table() -> Table
-        name_entries debug_names_name_entries(name: u32) -> Answer
+        name_entries debug_names_name_entries(name: NameTableIndex) -> Answer
         next_entry debug_names_next_entry(at: usize) -> Entry
-        name_entry debug_names_name_entry(offset: usize) -> Entry
+        name_entry debug_names_name_entry(offset: NameEntryOffset) -> Entry
     }
 
-    pub fn name_string(&self, index: IndexHandle, name: u32) -> Str {
+    pub fn name_string(&self, index: IndexHandle, name: NameTableIndex) -> Str {
         let (names, strings) = (self.names, self.strings);
         unsafe { debug_names_name_string(self.order, names.as_ptr(), names.len(), strings.as_ptr(), strings.len(), index, name) }
     }
 
-    pub fn get_str(&self, offset: usize) -> Str {
+    pub fn get_str(&self, offset: DebugStrOffset) -> Str {
         unsafe { debug_names_get_str(self.strings.as_ptr(), self.strings.len(), offset) }
     }
 

@@ -2,6 +2,7 @@
 
 use crate::desk::Desk;
 use crate::ffi::{Answer, Record};
+use crate::numbers::{self, DebugNamesOffset, NameEntryOffset, UnitOffset};
 use crate::tally::Call;
 use crate::twin::Twin;
 use gimli::hashes::stored;
@@ -14,10 +15,10 @@ const NAMES: usize = 4;
 /// What a record holds that no query writes.
 const FILLING: Record = Record {
     unit_value: 0xa5a5_a5a5_a5a5_a5a5,
-    die_offset: 0xa6a6_a6a6,
-    index_offset: 0xa7a7_a7a7,
-    entry_offset: 0xa8a8_a8a8,
-    name: 0xa9a9_a9a9,
+    die_offset: UnitOffset(0xa6a6_a6a6),
+    index_offset: DebugNamesOffset(0xa7a7_a7a7),
+    entry_offset: NameEntryOffset(0xa8a8_a8a8),
+    name: numbers::NameTableIndex(0xa9a9_a9a9),
     tag: 0xaaaa,
     unit_kind: 0xab,
     has_die_offset: 0xac,
@@ -89,10 +90,10 @@ fn record(found: &gimli::query::Record) -> Record {
     let (unit_kind, unit_value) = found.unit.shown();
     Record {
         unit_value,
-        die_offset: found.die.unwrap_or(0),
-        index_offset: found.index as u32,
-        entry_offset: found.entry as u32,
-        name: found.name,
+        die_offset: UnitOffset(found.die.unwrap_or(0)),
+        index_offset: DebugNamesOffset(found.index as u32),
+        entry_offset: NameEntryOffset(found.entry as u32),
+        name: numbers::NameTableIndex(found.name),
         tag: found.tag,
         unit_kind,
         has_die_offset: found.die.is_some().into(),
