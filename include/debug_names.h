@@ -2,7 +2,7 @@
  *
  * .debug_names is the DWARF 5 section (6.1.1) that says where the function or type of a name is described. Every function
  * below is proved to meet its contract (crates/debug_names): on any bytes, any numbers and any handles it ends, reads only
- * what it is lent, keeps nothing, and answers as documents 01 and 02 say, or refuses with document 01's number and value.
+ * what it is lent, keeps nothing, and answers, or refuses with a number and a value, as docs/SPECIFICATION.md says.
  *
  * What crosses:
  * - A section, a name and records are lent as a pointer to the first of them and their number. The pointer must be valid and aligned for
@@ -41,10 +41,10 @@ typedef uint64_t debug_names_type_signature; /* the signature of a type unit */
 /* The byte orders. */
 enum debug_names_order { DEBUG_NAMES_LITTLE_ENDIAN = 0, DEBUG_NAMES_BIG_ENDIAN = 1 };
 
-/* The refusals, by document 01's numbers and gimli's names, each with the value that it carries. */
+/* The refusals, by their numbers (SPECIFICATION 2.1) and gimli's names, each with the value that it carries. */
 enum debug_names_status {
     DEBUG_NAMES_OK = 0,
-    DEBUG_NAMES_UNEXPECTED_EOF = 1,               /* the place where the failing read began */
+    DEBUG_NAMES_UNEXPECTED_EOF = 1,               /* the place where the failing read began; of a LEB128 number, of the missing byte */
     DEBUG_NAMES_UNKNOWN_RESERVED_LENGTH = 2,      /* the length */
     DEBUG_NAMES_UNKNOWN_VERSION = 3,              /* the version */
     DEBUG_NAMES_ABBREVIATION_TAG_ZERO = 4,

@@ -57,7 +57,7 @@ using type_signature = named_number<struct type_signature_name, debug_names_type
 
 // ---- What a call answers
 
-// Why a call said no: document 01's number, 1 to 14, and the one value that the refusal carries (0 where it carries none).
+// Why a call said no: the refusal's number, 1 to 14, and the one value that the refusal carries (0 where it carries none).
 struct refusal {
     std::uint32_t number = 0;
     std::uint64_t value = 0;

@@ -4,7 +4,7 @@
 
 use crate::numbers::{DebugNamesOffset, DebugStrOffset, NameEntryOffset, NameTableIndex, UnitOffset};
 
-/// An answer: `status` is 0 or document 01's number of the refusal; `value` is the answer's number, or the refusal's value.
+/// An answer: `status` is 0 or the number of the refusal; `value` is the answer's number, or the refusal's value.
 #[repr(C)]
 #[derive(Clone, Copy, Debug, Default, PartialEq, Eq)]
 pub struct Answer {

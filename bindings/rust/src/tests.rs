@@ -1,5 +1,5 @@
-//! Document 01's case A, and document 02's lost names and entries with two units. The expected values are worked out by hand from these
-//! documents.
+//! Case A (SPECIFICATION 16), lost names (11) and entries with two units (12.6). The expected values are worked out by hand from what the
+//! specification says.
 
 use crate::calls::{self, Outcome, Section};
 use crate::ffi;
@@ -399,6 +399,23 @@ fn does_not_fit() {
     assert_eq!(calls::check_table(cut, handle), ffi::Table { status: 14, ..ffi::Table::default() });
     let no_format = ffi::IndexHandle { format: 5, ..handle };
     assert_eq!(calls::open(section, no_format).check(), Err(Error::DoesNotFit));
+}
+
+/// 14 leaves the cursor as it was, number by number, also where the library would write it otherwise.
+#[test]
+fn a_refused_hash_step_hands_back_the_cursor() {
+    let bytes = little();
+    let section = Section { bytes: &bytes, order: 0 };
+    let index = calls::next_header(section, 0).index;
+    let no_format = ffi::IndexHandle { format: 5, ..index };
+    for has_bucket in [0, 1, 7] {
+        let cursor = ffi::HashCursor { hash: 1, has_bucket, bucket: 3, name: NameTableIndex(9) };
+        let step = calls::next_by_hash(section, no_format, cursor);
+        assert_eq!(step, ffi::HashStep { status: 14, next: cursor, ..ffi::HashStep::default() });
+    }
+    // An index that fits has no bucket 3.
+    let cursor = ffi::HashCursor { hash: 1, has_bucket: 7, bucket: 3, name: NameTableIndex(9) };
+    assert_eq!(calls::next_by_hash(section, index, cursor), ffi::HashStep { status: 14, next: cursor, ..ffi::HashStep::default() });
 }
 
 /// Every number gives an error of that number, with its value where it carries one.
