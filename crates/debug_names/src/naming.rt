@@ -25,12 +25,7 @@ pub extern "C" fn debug_names_name_string_offset(
 ) -> Answer
     ensures { result ≡ handed str_offset_answer (name_string_offset (order_of order) section.now (index_from index) name) }
 {
-    str_offset_answer(name_string_offset(
-        order_of(order),
-        section,
-        NameIndex::from(index),
-        name,
-    ))
+    str_offset_answer(name_string_offset(order_of(order), section, NameIndex::from(index), name))
 }
 
 // Where a name's string stands in .debug_str.

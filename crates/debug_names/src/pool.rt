@@ -24,12 +24,7 @@ pub extern "C" fn debug_names_name_entries(
 ) -> Answer
     ensures { result ≡ handed entries_answer (name_entries (order_of order) section.now (index_from index) name) }
 {
-    entries_answer(name_entries(
-        order_of(order),
-        section,
-        NameIndex::from(index),
-        name,
-    ))
+    entries_answer(name_entries(order_of(order), section, NameIndex::from(index), name))
 }
 
 // The next entry, from a cursor.

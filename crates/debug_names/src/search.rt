@@ -3,7 +3,7 @@
 // (order, section, strings, hash, name) stay parameters, which C hands over one by one.
 ghost use Rattle.std.specs.Prelude.{◌≡◌};
 ghost use Rattle.handles.specs.Handles.{order_of};
-ghost use Rattle.debug_names.specs.Query.{query_answer};
+ghost use Rattle.exported.specs.Query.{query_answer};
 
 use answers::{Answer, total_answer};
 use handles::order_of;
@@ -11,7 +11,7 @@ use query::query;
 use records::Record;
 
 // All entries of a name: the answer is their number, and the first of them are written into the records that are lent.
-#[tactic(auto, unfolding(crate::specs::Query::query_answer))]
+#[tactic(auto, unfolding(exported::specs::Query::query_answer))]
 #[unsafe(no_mangle)]
 pub extern "C" fn debug_names_query(
     order: u32,

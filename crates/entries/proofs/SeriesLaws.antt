@@ -212,17 +212,17 @@ handles_tell order s i c t gave =
     rw (sym this, there) refl
 
 -- the step of a cursor that fits
-step_fits : (order : RunTimeEndian) (s : List ℕ) (i : NameIndex) (at : ℕ) → length s ≤ longest → Fits s i → (parts i).entry_pool ≤ at → at ≤ (parts i).end
+pub step_fits : (order : RunTimeEndian) (s : List ℕ) (i : NameIndex) (at : ℕ) → length s ≤ longest → Fits s i → (parts i).entry_pool ≤ at → at ≤ (parts i).end
     → entry_step order s i (cursor_at at) ≡ moved handed (parts i) (series_entry order s (parts i) at)
 unfolding entry_step step_showing
 step_fits order s i at short fits above below = rw (fitted-fits s i short fits, le-ltb at (parts i).entry_pool above, le-ltb (parts i).end at below)
 
 -- Demand 3: a cursor of a lookup stands for the entries from its place on
 module _ (order : RunTimeEndian) (s : List ℕ) (i : NameIndex) (short : length s ≤ longest) (fits : Fits s i) where
-  abbrev Inside : NameEntryIter → Type 0
+  abbrev pub Inside : NameEntryIter → Type 0
   Inside c = ((parts i).entry_pool ≤ c.at) × (c.at ≤ (parts i).end)
 
-  abbrev left : NameEntryIter → List (Outcome (Option NameEntry))
+  abbrev pub left : NameEntryIter → List (Outcome (Option NameEntry))
   left c = answers_of handed (entries_from order s (parts i) c.at)
 
   -- what is left where the reading at the cursor's place is known
@@ -230,7 +230,7 @@ module _ (order : RunTimeEndian) (s : List ℕ) (i : NameIndex) (short : length 
       → left c ≡ answers_of handed (listed o λ e. entries_from order s (parts i) e.next)
   left_read c o read = rw (series_step order s (parts i) c.at, read)
 
-  each : (c : NameEntryIter) → Inside c → Next (entry_step order s i) Inside left c
+  pub each : (c : NameEntryIter) → Inside c → Next (entry_step order s i) Inside left c
   unfolding moved answers_of
   each c (above, below) = by_cases (series_entry order s (parts i) c.at) refl (step_fits order s i c.at short fits above below)
     where

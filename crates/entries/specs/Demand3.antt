@@ -1,6 +1,6 @@
 -- Document 01, demand 3, for entry lookups: one theorem about lists of steps of any length. The law `entry-lookups` of
 -- proofs/SeriesLaws.antt proves it.
-use Rattle.std.specs.Prelude.{ℕ, ◌≡◌, List, map, Ok}
+use Rattle.std.specs.Prelude.{ℕ, ◌≡◌, List, Ok}
 use Rattle.reader.specs.Listing.{answers_of}
 use Rattle.reader.specs.Steps.{Linked, ListsInOrder, answers, Taken}
 use Rattle.reader.specs.declared.endianity.RunTimeEndian.{RunTimeEndian}

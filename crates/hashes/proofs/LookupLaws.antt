@@ -123,10 +123,10 @@ none_at_zero order s i bucket found given =
 
 -- Demand 3. A cursor of a lookup stands for the names of its bucket from its number on, or for those of them that store its hash.
 module _ (order : RunTimeEndian) (s : List ℕ) (i : NameIndex) (short : length s ≤ longest) (fits : Fits s i) where
-  abbrev HasBucket : NameBucketIter → Type 0
+  abbrev pub HasBucket : NameBucketIter → Type 0
   HasBucket c = c.bucket_index < i.bucket_count
 
-  abbrev bucket_left : NameBucketIter → List (Outcome (Option BucketName))
+  abbrev pub bucket_left : NameBucketIter → List (Outcome (Option BucketName))
   bucket_left c = bucket_names order s (parts i) (run_from i (stored_hash order s (parts i)) c.bucket_index c.name_table_index.0)
 
   bucket_step_lem : (c : NameBucketIter) → HasBucket c
@@ -134,7 +134,7 @@ module _ (order : RunTimeEndian) (s : List ℕ) (i : NameIndex) (short : length 
   unfolding bucket_step
   bucket_step_lem c below = rw (fitted-fits s i short fits, lt-leb i.bucket_count c.bucket_index below)
 
-  each-name : (c : NameBucketIter) → HasBucket c → Next (bucket_step order s i) HasBucket bucket_left c
+  pub each-name : (c : NameBucketIter) → HasBucket c → Next (bucket_step order s i) HasBucket bucket_left c
   unfolding bucket_names
   each-name c below =
       tested (leb i.name_count name) (eqb (bucket_of i (stored_hash order s (parts i) name)) c.bucket_index) (run_step i (stored_hash order s (parts i)) c.bucket_index name)
@@ -151,21 +151,21 @@ module _ (order : RunTimeEndian) (s : List ℕ) (i : NameIndex) (short : length 
       tested false true left step = gives_item (hashed order s (parts i) name) (rw (step, left)) (ap (λ t. t.answer) step) (rw step below)
       tested false false left step = at-end (rw left) (ap (λ t. t.answer) step)
 
-  abbrev Held : Option NameBucketIter → Type 0
+  abbrev pub Held : Option NameBucketIter → Type 0
   Held None = Unit {0}
   Held (Some b) = HasBucket b
 
-  abbrev HasHeld : NameHashIter → Type 0
+  abbrev pub HasHeld : NameHashIter → Type 0
   HasHeld c = Held c.bucket_iter
 
-  abbrev held_left : ℕ → Option NameBucketIter → List ℕ
+  abbrev pub held_left : ℕ → Option NameBucketIter → List ℕ
   held_left hash None = []
   held_left hash (Some b) = storing (stored_hash order s (parts i)) hash (run_from i (stored_hash order s (parts i)) b.bucket_index b.name_table_index.0)
 
-  abbrev hash_left : NameHashIter → List (Outcome (Option NameTableIndex))
+  abbrev pub hash_left : NameHashIter → List (Outcome (Option NameTableIndex))
   hash_left c = hash_names (held_left c.hash c.bucket_iter)
 
-  abbrev holding : ℕ → Option NameBucketIter → NameHashIter
+  abbrev pub holding : ℕ → Option NameBucketIter → NameHashIter
   holding hash held = record { bucket_iter = held; hash = hash }
 
   hash_step_lem : (hash : ℕ) (b : NameBucketIter) → HasBucket b
@@ -179,7 +179,7 @@ module _ (order : RunTimeEndian) (s : List ℕ) (i : NameIndex) (short : length 
   unfolding hash_step
   hash_stays hash = rw (fitted-fits s i short fits)
 
-  each-storing : (hash : ℕ) (held : Option NameBucketIter) → Held held → Next (hash_step order s i) HasHeld hash_left (holding hash held)
+  pub each-storing : (hash : ℕ) (held : Option NameBucketIter) → Held held → Next (hash_step order s i) HasHeld hash_left (holding hash held)
   unfolding hash_names next_storing first_or
   each-storing hash None below = at-end refl (ap (λ t. t.answer) (hash_stays hash))
   each-storing hash (Some b) below = found (held_left hash (Some b)) refl (hash_step_lem hash b below)
@@ -212,7 +212,7 @@ module _ (order : RunTimeEndian) (s : List ℕ) (i : NameIndex) (short : length 
       (r ∷ steps, ap suc count, step_then is linked)
 
 -- a cursor that `find_by_bucket` gave stands for the bucket's run
-run-started : (order : RunTimeEndian) (s : List ℕ) (i : NameIndex) (bucket start : ℕ) (c : NameBucketIter) → Some c ≡ started bucket start
+pub run-started : (order : RunTimeEndian) (s : List ℕ) (i : NameIndex) (bucket start : ℕ) (c : NameBucketIter) → Some c ≡ started bucket start
     → (c.bucket_index ≡ bucket) × (from_start start (run_from i (stored_hash order s (parts i)) bucket) ≡ run_from i (stored_hash order s (parts i)) c.bucket_index c.name_table_index.0)
 unfolding started from_start
 run-started order s i bucket start c = tested (eqb start 0)
@@ -233,7 +233,7 @@ bucket-lookups order s i bucket c steps given linked =
     (steps_list (bucket_step order s i) (HasBucket order s i short fits) (bucket_left order s i short fits) (each-name order s i short fits) steps c (rw here below) linked)
 
 -- the same for a hash's cursor
-held_started : (order : RunTimeEndian) (s : List ℕ) (i : NameIndex) (short : length s ≤ longest) (fits : Fits s i) (hash bucket start : ℕ) (held : Option NameBucketIter) → bucket < i.bucket_count → held ≡ started bucket start
+pub held_started : (order : RunTimeEndian) (s : List ℕ) (i : NameIndex) (short : length s ≤ longest) (fits : Fits s i) (hash bucket start : ℕ) (held : Option NameBucketIter) → bucket < i.bucket_count → held ≡ started bucket start
     → Held order s i short fits held × (storing (stored_hash order s (parts i)) hash (from_start start (run_from i (stored_hash order s (parts i)) bucket)) ≡ held_left order s i short fits hash held)
 unfolding started from_start storing filterb
 held_started order s i short fits hash bucket start held below same = tested (eqb start 0) same

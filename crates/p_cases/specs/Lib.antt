@@ -1,5 +1,6 @@
 pub mod Cases
 pub mod CaseA
+pub mod Exported
 pub mod Lost
 pub mod Queries
 pub mod Split

@@ -1,6 +1,5 @@
 -- Where the part has the bytes they are read; a number has bytes, so that then its place lies in the section.
 use native.Mathlib.Omega.{arith}
-use mathlib.Core.Path.{sym}
 use Rattle.reader.proofs.NumberLaws.{number_read}
 use Rattle.reader.proofs.reader.read_number.Goals as goal
 

@@ -1,0 +1,101 @@
+-- Document 01, demand 3, of the exported calls, in the structs that they hand over: its first part, each one theorem about lists of steps of any
+-- length, and its third, of the query. The laws `exported-buckets` and `exported-hashes` of proofs/LookupLaws.antt, `exported-entries` of
+-- proofs/EntryLaws.antt and `exported_query_finds` of proofs/QueryLaws.antt prove them. Order, index and cursor are the caller's numbers, as in
+-- the contracts of the exported functions.
+use Rattle.std.specs.Prelude.{ℕ, ◌≡◌, cond, List, [], ◌∷◌, ◌++◌, map, length, take, drop, eqb, Option, Some, None}
+use Rattle.reader.specs.Outcome.{Outcome, answered, refused}
+use Rattle.reader.specs.Listing.{answers_of}
+use Rattle.reader.specs.Steps.{ListsInOrder}
+use Rattle.reader.specs.declared.common.NameTableIndex.{NameTableIndex}
+use Rattle.index.specs.Layout.{parts}
+use Rattle.entries.specs.declared.entry.NameEntry.{NameEntry}
+use Rattle.entries.specs.Entries.{handed as entry_handed}
+use Rattle.entries.specs.Series.{series, name_entries}
+use Rattle.hashes.specs.declared.bucket.BucketName.{BucketName}
+use Rattle.hashes.specs.Table.{run, names_of_hash}
+use Rattle.hashes.specs.Lookups.{bucket_cursor, find_by_bucket, find_by_hash, bucket_step, hash_step}
+use Rattle.hashes.specs.Demand3.{bucket_names, hash_names}
+use Rattle.records.specs.declared.record.Record.{Record}
+use Rattle.handles.specs.declared.IndexHandle.{IndexHandle}
+use Rattle.handles.specs.declared.HashCursor.{HashCursor}
+use Rattle.handles.specs.Handles.{order_of, index_from, iter_from}
+use Rattle.answers.specs.Answers.{handed, bucket_answer, entries_answer}
+use Rattle.step_answers.specs.declared.BucketAnswer.{BucketAnswer}
+use Rattle.step_answers.specs.declared.HashAnswer.{HashAnswer}
+use Rattle.step_answers.specs.Steps.{bucket_step_answer, hash_answer, hash_step_answer}
+use Rattle.entry_answers.specs.declared.EntryAnswer.{EntryAnswer}
+use Rattle.entry_answers.specs.Entry.{entry_step_answer}
+use Rattle.demand3.specs.Expected.{OpenIndex, expected}
+use Rattle.demand3.specs.Demand3.{Each, AllOpen, CompleteOrNoTable}
+use Rattle.exported.specs.Query.{query_answer}
+
+-- a list of what an exported step answered: the first from the cursor c, and each next from the `next` of the one before it
+pub data LinkedCalls {T C : Type 0} (call : C → T) (next : T → C) : C → List T → Type 0 where
+  no_calls : {c : C} → LinkedCalls call next c []
+  call_then : {c : C} {t : T} {ts : List T} → t ≡ call c → LinkedCalls call next (next t) ts → LinkedCalls call next c (t ∷ ts)
+
+-- What the numbers of a struct tell: with status 0, kind 0 is the end, and any other kind an item; any other status is a refusal with that number
+-- and the struct's value.
+abbrev pub told : {A : Type 0} → ℕ → ℕ → ℕ → A → Outcome (Option A)
+told status kind value item = cond (eqb status 0) (cond (eqb kind 0) (answered None) (answered (Some item))) (refused status value)
+
+-- the items: a name's number and its hash, a name's number, and an entry's handle, code and tag
+abbrev pub told_by_bucket : BucketAnswer → Outcome (Option BucketName)
+told_by_bucket t = told t.status t.kind t.value (record { name = record { 0 = t.value }; hash = t.hash })
+
+abbrev pub told_by_hash : HashAnswer → Outcome (Option NameTableIndex)
+told_by_hash t = told t.status t.kind t.value (record { 0 = t.value })
+
+abbrev pub told_by_entry : EntryAnswer → Outcome (Option NameEntry)
+told_by_entry t = told t.status t.kind t.value (record { offset = record { 0 = t.value }; abbrev_code = t.abbrev_code; tag = t.tag })
+
+-- What the exported steps hand over of a caller's cursor, as their contracts say it: `debug_names_next_in_bucket` of the number of a name,
+-- `debug_names_next_by_hash` of a hash cursor, and `debug_names_next_entry` of a place.
+abbrev pub next_in_bucket_call : ℕ → List ℕ → IndexHandle → ℕ → NameTableIndex → BucketAnswer
+next_in_bucket_call order s h bucket name = bucket_step_answer (bucket_step (order_of order) s (index_from h) (bucket_cursor bucket name.0))
+
+abbrev pub next_by_hash_call : ℕ → List ℕ → IndexHandle → HashCursor → HashAnswer
+next_by_hash_call order s h c = hash_step_answer c (hash_step (order_of order) s (index_from h) (iter_from c))
+
+abbrev pub next_entry_call : ℕ → List ℕ → IndexHandle → ℕ → EntryAnswer
+next_entry_call order s h at = entry_step_answer (order_of order) s (index_from h) (record { at = at })
+
+-- If `debug_names_find_by_bucket` gave the name `first` for a bucket, then whatever list of `debug_names_next_in_bucket` follows, each given the
+-- name that the lookup or the step before it gave: what they tell up to the first end is the beginning of the bucket's run, in order and
+-- without a gap; and the first end is the first step before which all of the run is told (`ListsInOrder`).
+abbrev pub ExportedBuckets : Type 0
+ExportedBuckets =
+    (order : ℕ) (s : List ℕ) (h : IndexHandle) (bucket first : ℕ) (steps : List BucketAnswer)
+    → record { status = 0; kind = 1; value = first } ≡ handed bucket_answer (find_by_bucket (order_of order) s (index_from h) bucket)
+    → LinkedCalls (next_in_bucket_call order s h bucket) (λ t. t.next) (record { 0 = first }) steps
+    → ListsInOrder (map told_by_bucket steps) (bucket_names (order_of order) s (parts (index_from h)) (run (order_of order) s (index_from h) bucket))
+
+-- The same for `debug_names_find_by_hash` and `debug_names_next_by_hash`, and the names of the run that store the hash.
+abbrev pub ExportedHashes : Type 0
+ExportedHashes =
+    (order : ℕ) (s : List ℕ) (h : IndexHandle) (hash : ℕ) (first : HashCursor) (steps : List HashAnswer)
+    → record { status = 0; kind = 1; value = 0; next = first } ≡ hash_answer (find_by_hash (order_of order) s (index_from h) hash)
+    → LinkedCalls (next_by_hash_call order s h) (λ t. t.next) first steps
+    → ListsInOrder (map told_by_hash steps) (hash_names (names_of_hash (order_of order) s (index_from h) hash))
+
+-- The same for `debug_names_name_entries` and `debug_names_next_entry`, and the series of the name: an entry with its handle, its code and its
+-- tag, and a refusal with its number and value.
+abbrev pub ExportedEntries : Type 0
+ExportedEntries =
+    (order : ℕ) (s : List ℕ) (h : IndexHandle) (name : NameTableIndex) (first : ℕ) (steps : List EntryAnswer)
+    → record { status = 0; kind = 1; value = first } ≡ handed entries_answer (name_entries (order_of order) s (index_from h) name)
+    → LinkedCalls (next_entry_call order s h) (λ t. t.next) first steps
+    → ListsInOrder (map told_by_entry steps) (answers_of entry_handed (series (order_of order) s (index_from h) name))
+
+-- The third part, of `debug_names_query`. Where it is not refused: its total is the number of the entries expected; and the lent records are at
+-- exit the first of their records, as many as there is room for, and after them what was there.
+abbrev pub ExportedQueryFinds : Type 0
+ExportedQueryFinds =
+    (order : ℕ) (s strs : List ℕ) (hash : ℕ) (text : List ℕ) (lent after : List Record) (total : ℕ) (opened : List OpenIndex)
+    → AllOpen (order_of order) s opened
+    → Each (CompleteOrNoTable (order_of order) s) opened
+    → record { answer = record { status = 0; kind = 1; value = total }; records = after } ≡ query_answer (order_of order) s strs hash text lent
+    → (total ≡ length (expected (order_of order) s strs hash text opened))
+    × ((new : List Record)
+    × (map answered new ≡ take (length lent) (expected (order_of order) s strs hash text opened))
+    × (after ≡ new ++ drop (length new) lent))

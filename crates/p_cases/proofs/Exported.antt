@@ -1,0 +1,99 @@
+-- What demand 3 of the exported calls supposes and says of case A.
+use mathlib.Core.Path.{refl, sym, ap}
+use mathlib.Core.List.{[], ◌∷◌}
+use Rattle.abbreviations.specs.Abbreviations.{attributes, attributes_in, declaration, ending, find, head, pair, parsed, table, with_attributes}
+use Rattle.answers.specs.Answers.{count_answer, handed, refused_answer}
+use Rattle.attributes.specs.Attributes.{facts, first, values}
+use Rattle.attributes.specs.Meaning.{compile_unit_of, die_offset_in, die_offset_of, numbered_type_unit, numbered_unit, parent_in, parent_of, type_hash_in, type_hash_of, type_unit_of, unit_number, unit_number_in}
+use Rattle.entries.specs.Entries.{entry, name_entry}
+use Rattle.entries.specs.Facts.{entry_compile_unit, entry_die_offset, entry_parent, entry_type_hash, entry_type_unit}
+use Rattle.entries.specs.Series.{entries_from, entry_step, moved, name_entries, series, series_entry, series_start, step_showing}
+use Rattle.entry_answers.specs.Entry.{entry_step_answer, facts_at, no_facts}
+use Rattle.exported.proofs.EntryLaws.{exported-entries}
+use Rattle.exported.proofs.LookupLaws.{exported-buckets, exported-hashes}
+use Rattle.exported.proofs.QueryLaws.{exported_query_finds, refused_unchanged}
+use Rattle.exported.specs.Demand3.{call_then, no_calls}
+use Rattle.exported.specs.Query.{QueryHanded, query_answer}
+use Rattle.forms.specs.Forms.{as_flag, as_offset, as_unsigned, form_value}
+use Rattle.handles.specs.Handles.{cursor_from, index_from, iter_from, order_of, with_format}
+use Rattle.hashes.specs.Demand3.{bucket_names}
+use Rattle.hashes.specs.Lookups.{bucket_step, find_by_bucket, find_by_hash, first_name, first_or, hash_step, next_in_bucket, next_storing}
+use Rattle.hashes.specs.Table.{bucket_of, examined, examined_from, from_start, names_from, names_of_hash, nth_of, run, run_from, stored_hash, stored_start, storing}
+use Rattle.headers.specs.Header.{augmentation, counts, header, header_body, header_cut}
+use Rattle.headers.specs.Headers.{header_at, headers_from}
+use Rattle.index.specs.Layout.{fitted, hash_bytes, parts, place, places_from, sizes, word_bytes}
+use Rattle.index.specs.Open.{cut_parts, index_of, name_index, passed_over}
+use Rattle.index_query.specs.Candidates.{candidates}
+use Rattle.index_query.specs.Matching.{matching, name_matches, same_bytes, text_is}
+use Rattle.index_query.specs.Records.{all_series, index_records}
+use Rattle.index_query.specs.Series.{record_of_entry, series_records}
+use Rattle.leb128.specs.Leb128.{base128, complete, leb128, number_bytes, number_of_bytes}
+use Rattle.names.specs.Names.{name_string, name_string_offset}
+use Rattle.names.specs.Units.{default_compile_unit, nth_compile_unit, nth_word, unit_in}
+use Rattle.p_cases.proofs.Queries.{all_open_a, complete-a, query_of_a_lem}
+use Rattle.p_cases.specs.CaseA.{case_a, second_start, strings_a}
+use Rattle.p_cases.specs.Exported.{BucketCallsOfA, BucketGiven, BucketListed, BucketRun, EntriesGiven, EntriesListed, EntryCallsOfA, HashCallsOfA, HashGiven, HashListed, QueryFound, QueryGiven, QueryRefused, RefusedLeaves, bucket_calls_of_a, entry_calls_of_a, handle_a, hash_calls_of_a, nine_at}
+use Rattle.p_cases.specs.Queries.{de, function_at, old, open_a}
+use Rattle.query.specs.Query.{section_query, written}
+use Rattle.query_plan.specs.Plans.{Queried, queried}
+use Rattle.reader.specs.Errors.{longest}
+use Rattle.reader.specs.Listing.{counted, followed_by, items_of, listing, shown_by}
+use Rattle.reader.specs.Lists.{filterb, memberb, numbers_from, take_while}
+use Rattle.reader.specs.Numbers.{digits, initial_length, number_at, read_byte, read_number, spelled}
+use Rattle.reader.specs.Parts.{cut, skipped}
+use Rattle.records.specs.Records.{entry_record, shown}
+use Rattle.records.specs.Units.{compile_shown, default_shown, entry_unit, type_shown}
+use Rattle.section_records.specs.Records.{header_records, headers_left, section_records}
+use Rattle.strings.specs.Strings.{before_zero, get_str, zero_from}
+
+pub bucket_given : BucketGiven
+unfolding case_a handle_a order_of index_from with_format find_by_bucket first_name fitted parts place places_from sizes word_bytes hash_bytes longest read_number skipped spelled digits
+bucket_given = refl
+
+pub bucket_calls_of_a_lem : BucketCallsOfA
+unfolding case_a handle_a order_of index_from with_format bucket_step next_in_bucket first_or nth_of stored_start stored_hash bucket_of names_from run_from examined_from from_start numbers_from take_while number_at spelled digits fitted parts place places_from sizes word_bytes hash_bytes longest
+bucket_calls_of_a_lem = call_then refl (call_then refl (call_then refl (call_then refl no_calls)))
+
+pub bucket_listed : BucketListed
+bucket_listed = exported-buckets 0 case_a handle_a 1 1 bucket_calls_of_a bucket_given bucket_calls_of_a_lem
+
+pub bucket_run : BucketRun
+unfolding case_a handle_a order_of index_from with_format run examined nth_of stored_start stored_hash bucket_of names_from run_from examined_from from_start numbers_from take_while number_at spelled digits fitted parts place places_from sizes word_bytes hash_bytes longest bucket_names
+bucket_run = refl
+
+pub hash_given : HashGiven
+unfolding case_a handle_a order_of index_from with_format find_by_hash find_by_bucket first_name bucket_of fitted parts place places_from sizes word_bytes hash_bytes longest read_number skipped spelled digits cursor_from
+hash_given = refl
+
+pub hash_calls_of_a_lem : HashCallsOfA
+unfolding case_a handle_a order_of index_from with_format hash_step next_storing storing filterb first_or nth_of stored_start stored_hash bucket_of names_from run_from examined_from from_start numbers_from take_while number_at spelled digits fitted parts place places_from sizes word_bytes hash_bytes longest iter_from cursor_from
+hash_calls_of_a_lem = call_then refl (call_then refl (call_then refl no_calls))
+
+pub hash_listed : HashListed
+hash_listed = exported-hashes 0 case_a handle_a 9 (nine_at 1) hash_calls_of_a hash_given hash_calls_of_a_lem
+
+pub entries_given : EntriesGiven
+unfolding case_a handle_a order_of index_from with_format name_entries series_start nth_word fitted parts place places_from sizes word_bytes hash_bytes longest read_number skipped spelled digits
+entries_given = refl
+
+pub entry_calls_of_a_lem : EntryCallsOfA
+unfolding case_a handle_a order_of index_from with_format entry_step step_showing moved series_entry entry values first form_value as_flag as_unsigned as_offset read_byte find table listing declaration with_attributes head attributes attributes_in pair leb128 number_of_bytes number_bytes complete base128 fitted parts place places_from sizes word_bytes hash_bytes longest read_number skipped spelled digits entry_step_answer facts_at no_facts entry_compile_unit entry_type_unit entry_type_hash compile_unit_of type_unit_of type_hash_of type_hash_in unit_number numbered_unit numbered_type_unit entry_die_offset entry_parent die_offset_of die_offset_in parent_of parent_in name_entry
+entry_calls_of_a_lem = call_then refl (call_then refl no_calls)
+
+pub entries_listed : EntriesListed
+entries_listed = exported-entries 0 case_a handle_a (record { 0 = 0 }) 91 entry_calls_of_a entries_given entry_calls_of_a_lem
+
+pub query_given : QueryGiven
+unfolding order_of query_answer
+query_given = ap {A = Queried} {B = QueryHanded} (λ (q : Queried). record { answer = handed count_answer q.answer; records = q.records }) (sym query_of_a_lem)
+
+pub query_found : QueryFound
+unfolding order_of
+query_found = exported_query_finds 0 case_a strings_a 7 de (old ∷ old ∷ []) (function_at 0 6 1 0 0x20 ∷ old ∷ []) 1 (open_a ∷ []) all_open_a complete-a query_given
+
+pub query_refused : QueryRefused
+unfolding case_a second_start order_of query_answer strings_a section_query queried written section_records headers_left header_records headers_from header_at header header_cut header_body counts augmentation initial_length read_number skipped cut spelled digits name_index index_of cut_parts passed_over parts place places_from sizes word_bytes hash_bytes longest parsed ending table listing declaration with_attributes head attributes attributes_in pair leb128 number_of_bytes number_bytes complete base128 index_records candidates find_by_hash find_by_bucket first_name names_of_hash run run_from from_start storing stored_start stored_hash nth_of bucket_of names_from numbers_from filterb take_while memberb number_at matching name_matches text_is same_bytes name_string name_string_offset nth_word get_str zero_from before_zero all_series series_records record_of_entry shown_by followed_by items_of counted series series_start series_entry entries_from entry values first facts form_value as_flag as_unsigned as_offset read_byte find fitted entry_record shown entry_unit type_shown compile_shown default_shown compile_unit_of type_unit_of unit_number unit_number_in numbered_unit numbered_type_unit nth_compile_unit unit_in default_compile_unit die_offset_of die_offset_in
+query_refused = refl
+
+pub refused_leaves : RefusedLeaves
+refused_leaves after given = refused_unchanged 0 7 (second_start 5) strings_a de (old ∷ old ∷ []) after (refused_answer 1 48) given refl
