@@ -9,13 +9,15 @@ use Rattle.reader.specs.Listing.{Listing, ended, broken, item, listing}
 use Rattle.abbreviations.specs.declared.NameAbbreviation.{NameAbbreviation}
 use Rattle.abbreviations.specs.declared.ReadAttribute.{ReadAttribute}
 use Rattle.abbreviations.specs.declared.Head.{Head}
+use Rattle.reader.specs.Errors.{fail_if, refusal, require}
+use Rattle.reader.specs.declared.error.Error.TheVariants.{AbbreviationTagZero, AttributeFormZero, AttributeNameZero, UnexpectedEof}
 
 -- name and form, 16 bits each; with name 0 the form is 0 too, else 5; with any other name it is not, else 6
 unfoldable pub pair : List ℕ → ℕ → ℕ → Outcome ReadAttribute
 pair s at end = do
   name ← leb128 u16_limit s at end
   form ← leb128 u16_limit s name.next end
-  cond (eqb name.value 0) (demand (eqb form.value 0) 5 0) (refuse_if (eqb form.value 0) 6 0)
+  cond (eqb name.value 0) (require (eqb form.value 0) AttributeNameZero) (fail_if (eqb form.value 0) AttributeFormZero)
   answered (record { name = name.value; form = form.value; next = form.next })
 
 -- an attribute that a declaration names
@@ -35,7 +37,7 @@ before p rest = record { list = record { name = p.name; form = p.form } ∷ rest
 -- the pairs from `at` on, up to (0, 0). Given as many turns as bytes are left, it has turns enough (`attributes_step`); where no
 -- byte is left, the next pair is missing.
 unfoldable pub attributes_in : ℕ → List ℕ → ℕ → ℕ → Outcome Attributes
-attributes_in zero s at end = refused 1 at
+attributes_in zero s at end = refusal (UnexpectedEof at)
 attributes_in (suc turns) s at end = do
   p ← pair s at end
   let more : Outcome Attributes = attributes_in turns s p.next end
@@ -52,7 +54,7 @@ head s at end = cond (eqb (left_at s at end) 0) (answered None) (do
   code ← leb128 unsigned_limit s at end
   cond (eqb code.value 0) (answered None) (do
     tag ← leb128 u16_limit s code.next end
-    refuse_if (eqb tag.value 0) 4 0
+    fail_if (eqb tag.value 0) AbbreviationTagZero
     answered (Some (record { code = code.value; tag = tag.value; next = tag.next }))))
 
 -- a declaration: its code, its tag and its attributes, with the place of their pairs and the place past it

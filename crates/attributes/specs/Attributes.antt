@@ -10,6 +10,8 @@ use Rattle.forms.specs.Forms.{form_value}
 use Rattle.attributes.specs.declared.attribute.FirstAttribute.{FirstAttribute}
 use Rattle.attributes.specs.declared.facts.Facts.{Facts}
 use Rattle.reader.specs.declared.reader.Read.{Read}
+use Rattle.reader.specs.Errors.{refusal}
+use Rattle.reader.specs.declared.error.Error.TheVariants.{UnexpectedEof}
 
 -- an attribute: its name, its form and its value
 pub record NameAttribute : Type 0 where
@@ -73,7 +75,7 @@ facts list = record {
 -- they are needed: a pair that is refused gives its refusal when its turn comes. For the pairs of a declaration, which can all be
 -- read, this is `values` (`values-declared`). Given as many turns as bytes are left of the pairs, it has turns enough (`turn_step`).
 unfoldable pub values_in : ℕ → RunTimeEndian → List ℕ → ℕ → ℕ → ℕ → ℕ → Outcome Values
-values_in zero order s pairs pairsEnd at end = refused 1 pairs
+values_in zero order s pairs pairsEnd at end = refusal (UnexpectedEof pairs)
 values_in (suc turns) order s pairs pairsEnd at end = do
   p ← pair s pairs pairsEnd
   let more : ℕ → Outcome Values = λ next. values_in turns order s p.next pairsEnd next end

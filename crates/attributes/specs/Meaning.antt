@@ -11,12 +11,14 @@ use Rattle.attributes.specs.declared.attribute.EntryParent.{EntryParent}
 use Rattle.names.specs.declared.units.NameTypeUnit.{NameTypeUnit}
 use Rattle.reader.specs.declared.common.DebugInfoOffset.{DebugInfoOffset}
 use Rattle.reader.specs.declared.common.UnitOffset.{UnitOffset}
+use Rattle.reader.specs.Errors.{refusal}
+use Rattle.reader.specs.declared.error.Error.TheVariants.{InvalidNameAttributeIndex, UnsupportedAttributeForm}
 
 -- the number of a unit: unsigned, else 12 with the form; and of at most 32 bits, else 11 with the number
 unfoldable pub unit_number_in : ℕ → NameAttributeValue → Outcome (Option ℕ)
-unit_number_in form (NameAttributeValue.Unsigned n) = cond (ltb 4294967295 n) (refused 11 n) (answered (Some n))
-unit_number_in form (NameAttributeValue.Offset n) = refused 12 form
-unit_number_in form (NameAttributeValue.Flag b) = refused 12 form
+unit_number_in form (NameAttributeValue.Unsigned n) = cond (ltb 4294967295 n) (refusal (InvalidNameAttributeIndex n)) (answered (Some n))
+unit_number_in form (NameAttributeValue.Offset n) = refusal (UnsupportedAttributeForm form)
+unit_number_in form (NameAttributeValue.Flag b) = refusal (UnsupportedAttributeForm form)
 
 unfoldable pub unit_number : Option FirstAttribute → Outcome (Option ℕ)
 unit_number None = answered None
@@ -48,9 +50,9 @@ type_unit_of order s i f = do
 
 -- the offset of the DIE: an offset
 unfoldable pub die_offset_in : ℕ → NameAttributeValue → Outcome (Option UnitOffset)
-die_offset_in form (NameAttributeValue.Unsigned n) = refused 12 form
+die_offset_in form (NameAttributeValue.Unsigned n) = refusal (UnsupportedAttributeForm form)
 die_offset_in form (NameAttributeValue.Offset n) = answered (Some (record { 0 = n }))
-die_offset_in form (NameAttributeValue.Flag b) = refused 12 form
+die_offset_in form (NameAttributeValue.Flag b) = refusal (UnsupportedAttributeForm form)
 
 unfoldable pub die_offset_of : Option FirstAttribute → Outcome (Option UnitOffset)
 die_offset_of None = answered None
@@ -58,9 +60,9 @@ die_offset_of (Some a) = die_offset_in a.form a.value
 
 -- the parent: an offset, or flag true for no parent
 unfoldable pub parent_in : ℕ → NameAttributeValue → Outcome EntryParent
-parent_in form (NameAttributeValue.Unsigned n) = refused 12 form
+parent_in form (NameAttributeValue.Unsigned n) = refusal (UnsupportedAttributeForm form)
 parent_in form (NameAttributeValue.Offset n) = answered (EntryParent.Entry (record { 0 = n }))
-parent_in form (NameAttributeValue.Flag b) = cond b (answered EntryParent.NoParent) (refused 12 form)
+parent_in form (NameAttributeValue.Flag b) = cond b (answered EntryParent.NoParent) (refusal (UnsupportedAttributeForm form))
 
 unfoldable pub parent_of : Option FirstAttribute → Outcome EntryParent
 parent_of None = answered EntryParent.NotKnown
@@ -69,8 +71,8 @@ parent_of (Some a) = parent_in a.form a.value
 -- the hash of the type: unsigned
 unfoldable pub type_hash_in : ℕ → NameAttributeValue → Outcome (Option ℕ)
 type_hash_in form (NameAttributeValue.Unsigned n) = answered (Some n)
-type_hash_in form (NameAttributeValue.Offset n) = refused 12 form
-type_hash_in form (NameAttributeValue.Flag b) = refused 12 form
+type_hash_in form (NameAttributeValue.Offset n) = refusal (UnsupportedAttributeForm form)
+type_hash_in form (NameAttributeValue.Flag b) = refusal (UnsupportedAttributeForm form)
 
 unfoldable pub type_hash_of : Option FirstAttribute → Outcome (Option ℕ)
 type_hash_of None = answered None

@@ -2,6 +2,9 @@
 -- parts of the index lie.
 use Rattle.std.specs.Prelude.{ℕ, ◌-◌, cond, List, eqb}
 use Rattle.std.specs.Prelude.{Option, Some, None}
+use Rattle.reader.specs.declared.error.Error.{Error}
+use Rattle.reader.specs.declared.error.Error.TheVariants.{InvalidAbbreviationCode, NoEntryAtGivenOffset}
+use Rattle.reader.specs.Errors.{number_of, value_of}
 use Rattle.reader.specs.Outcome.{Outcome, answered, refused, ◌>>=◌}
 use Rattle.reader.specs.Parts.{skipped}
 use Rattle.leb128.specs.Leb128.{leb128, unsigned_limit}
@@ -30,13 +33,16 @@ abbrev pub or_refuse : {A : Type 0} → Option A → ℕ → ℕ → Outcome A
 or_refuse (Some a) n v = answered a
 or_refuse None n v = refused n v
 
+abbrev pub or_fail : {A : Type 0} → Option A → Error → Outcome A
+or_fail o e = or_refuse o (number_of e) (value_of e)
+
 -- the entry at a place of the pool, none at code 0: its code's declaration, 8 where there is none, says which attributes follow
 unfoldable pub entry : RunTimeEndian → List ℕ → Parts → ℕ → Outcome (Option Entry)
 entry order s p at = do
   code ← leb128 unsigned_limit s at p.end
   cond (eqb code.value 0) (answered None) (do
     declared ← find code.value (table s p.abbreviation_table p.entry_pool)
-    d ← or_refuse declared 8 code.value
+    d ← or_fail declared (InvalidAbbreviationCode code.value)
     v ← values order s d.attributes code.next p.end
     answered (Some (record { offset = at - p.entry_pool; code = code.value; tag = d.tag; attributes = v.list; next = v.next })))
 
@@ -46,7 +52,7 @@ name_entry order s i offset = do
   p ← fitted s i
   at ← skipped offset.0 s p.entry_pool p.end
   e ← entry order s p at
-  or_refuse e 10 offset.0
+  or_fail e (NoEntryAtGivenOffset offset)
 
 -- an entry as a call answers it: its handle, its code and its tag
 abbrev pub handed : Entry → NameEntry

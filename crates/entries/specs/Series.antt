@@ -15,6 +15,8 @@ use Rattle.entries.specs.declared.entry.NameEntry.{NameEntry}
 use Rattle.entries.specs.declared.series.NameEntryIter.{NameEntryIter}
 use Rattle.entries.specs.declared.entry.EntryAt.{EntryAt}
 use Rattle.entries.specs.Entries.{Entry, entry, handed, told}
+use Rattle.reader.specs.Errors.{fail_if}
+use Rattle.reader.specs.declared.error.Error.TheVariants.{DoesNotFit}
 
 -- the place of a name's first entry: the entry offset that is stored for the name, counted from the pool's start
 unfoldable pub series_start : RunTimeEndian → List ℕ → NameIndex → NameTableIndex → Outcome ℕ
@@ -57,8 +59,8 @@ moved shown p (refused n v) = record { answer = refused n v; cursor = cursor_at 
 unfoldable pub step_showing : {A : Type 0} → (Entry → A) → RunTimeEndian → List ℕ → NameIndex → NameEntryIter → Step A NameEntryIter
 step_showing shown order s i c = keeping c (do
   p ← fitted s i
-  refuse_if (ltb c.at p.entry_pool) 14 0
-  refuse_if (ltb p.end c.at) 14 0
+  fail_if (ltb c.at p.entry_pool) DoesNotFit
+  fail_if (ltb p.end c.at) DoesNotFit
   answered (moved shown p (series_entry order s p c.at)))
 
 -- `NameEntryIter::next`: an entry is shown by its handle, its code and its tag

@@ -7,6 +7,8 @@ use Rattle.reader.specs.declared.reader.Read.{Read}
 use Rattle.leb128.specs.Leb128.{leb128, unsigned_limit}
 use Rattle.reader.specs.declared.endianity.RunTimeEndian.{RunTimeEndian}
 use Rattle.forms.specs.declared.NameAttributeValue.{NameAttributeValue}
+use Rattle.reader.specs.Errors.{refusal}
+use Rattle.reader.specs.declared.error.Error.TheVariants.{UnknownForm}
 
 -- a number that was read, as a flag (true unless it is 0), as an unsigned number, or as an offset
 unfoldable pub as_flag : Outcome (Read ℕ) → Outcome (Read NameAttributeValue)
@@ -40,4 +42,4 @@ form_value form order s at end =
     (cond (eqb form 0x13) (as_offset (read_number 4 order s at end))
     (cond (eqb form 0x14) (as_offset (read_number 8 order s at end))
     (cond (eqb form 0x15) (as_offset (leb128 unsigned_limit s at end))
-    (refused 9 form))))))))))))
+    (refusal (UnknownForm form)))))))))))))

@@ -14,6 +14,8 @@ use Rattle.hashes.specs.declared.bucket.BucketName.{BucketName}
 use Rattle.hashes.specs.declared.hash.NameHashIter.{NameHashIter}
 use Rattle.hashes.specs.declared.hash.Found.{Found}
 use Rattle.hashes.specs.Table.{stored_hash, bucket_of, run_from, examined_from, storing}
+use Rattle.reader.specs.Errors.{fail_if}
+use Rattle.reader.specs.declared.error.Error.TheVariants.{DoesNotFit}
 
 -- a bucket's cursor before a name, and a hash's
 abbrev pub bucket_cursor : ℕ → ℕ → NameBucketIter
@@ -86,14 +88,14 @@ hash_moved bucket hash f = record { answer = answered (option_map (λ name. reco
 unfoldable pub bucket_step : RunTimeEndian → List ℕ → NameIndex → NameBucketIter → Step BucketName NameBucketIter
 bucket_step order s i c = keeping c (do
   p ← fitted s i
-  refuse_if (leb i.bucket_count c.bucket_index) 14 0
+  fail_if (leb i.bucket_count c.bucket_index) DoesNotFit
   answered (bucket_moved (hashed order s p) c.bucket_index (next_in_bucket i (stored_hash order s p) c.bucket_index c.name_table_index.0)))
 
 -- a hash's cursor that holds no bucket cursor is at its end
 abbrev hash_step_in : RunTimeEndian → List ℕ → NameIndex → Parts → NameHashIter → Option NameBucketIter → Outcome (Step NameTableIndex NameHashIter)
 hash_step_in order s i p c None = answered (record { answer = answered None; cursor = c })
 hash_step_in order s i p c (Some b) = do
-  refuse_if (leb i.bucket_count b.bucket_index) 14 0
+  fail_if (leb i.bucket_count b.bucket_index) DoesNotFit
   answered (hash_moved b.bucket_index c.hash (next_storing i (stored_hash order s p) b.bucket_index c.hash b.name_table_index.0))
 
 unfoldable pub hash_step : RunTimeEndian → List ℕ → NameIndex → NameHashIter → Step NameTableIndex NameHashIter

@@ -9,6 +9,8 @@ use Rattle.headers.specs.declared.header.HeaderCut.{HeaderCut}
 use Rattle.headers.specs.declared.header.Counts.{Counts}
 use Rattle.headers.specs.declared.header.AugmentationString.{AugmentationString}
 use Rattle.headers.specs.declared.header.NameIndexHeader.{NameIndexHeader}
+use Rattle.reader.specs.Errors.{require}
+use Rattle.reader.specs.declared.error.Error.TheVariants.{UnknownVersion}
 
 -- the part of the index whose header begins at `at`: as many bytes as its length says, past the length
 unfoldable pub header_cut : RunTimeEndian → List ℕ → ℕ → Outcome HeaderCut
@@ -70,7 +72,7 @@ augmentation size s at end = cond (eqb size 0) (answered (record { value = None;
 unfoldable pub header_body : RunTimeEndian → List ℕ → HeaderCut → Outcome NameIndexHeader
 header_body order s c = do
   version ← read_number 2 order s c.body.at c.body.end
-  demand (eqb version.value 5) 3 version.value
+  require (eqb version.value 5) (UnknownVersion version.value)
   padded ← skipped 2 s version.next c.body.end
   n ← counts order s padded c.body.end
   a ← augmentation n.augmentation_string_size s n.next c.body.end

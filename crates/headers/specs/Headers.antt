@@ -1,7 +1,8 @@
 -- The headers of a section, one after another: document 01, `NameIndexHeaderIter::next`.
 use Rattle.std.specs.Prelude.{ℕ, ◌-◌, cond, List, length, ltb, leb, eqb, Option, Some, None}
 use Rattle.reader.specs.Outcome.{Outcome, answered, refused, ◌>>=◌, ◌>>◌, refuse_if}
-use Rattle.reader.specs.Errors.{longest}
+use Rattle.reader.specs.declared.error.Error.TheVariants.{DoesNotFit, SectionTooLong}
+use Rattle.reader.specs.Errors.{longest, fail_if}
 use Rattle.reader.specs.Steps.{Step, keeping}
 use Rattle.reader.specs.Listing.{Listing, listing}
 use Rattle.reader.specs.declared.endianity.RunTimeEndian.{RunTimeEndian}
@@ -21,8 +22,8 @@ after_header s (refused n v) = record { answer = refused n v; cursor = record { 
 -- the step: at the section's end none, else the header there
 unfoldable pub header_step : RunTimeEndian → List ℕ → NameIndexHeaderIter → Step NameIndexHeader NameIndexHeaderIter
 header_step order s c = keeping c (do
-  refuse_if (ltb longest (length s)) 13 0
-  refuse_if (ltb (length s) c.at) 14 0
+  fail_if (ltb longest (length s)) SectionTooLong
+  fail_if (ltb (length s) c.at) DoesNotFit
   answered (cond (eqb c.at (length s)) (record { answer = answered None; cursor = c }) (after_header s (header order s c.at))))
 
 -- the header at a place, none at the section's end

@@ -1,7 +1,8 @@
 -- Where the parts of an index lie: document 01, "Headers and layout"; DWARF 5, section 6.1.1.4. `s` is the section.
 use Rattle.std.specs.Prelude.{ℕ, ◌+◌, ◌*◌, ◌≤◌, cond, List, [], ◌∷◌, length, get_or, ltb, eqb}
 use Rattle.reader.specs.Outcome.{Outcome, answered, ◌>>◌, refuse_if}
-use Rattle.reader.specs.Errors.{longest}
+use Rattle.reader.specs.declared.error.Error.TheVariants.{DoesNotFit, SectionTooLong}
+use Rattle.reader.specs.Errors.{longest, fail_if}
 use Rattle.reader.specs.Numbers.{word_size}
 use Rattle.reader.specs.declared.common.Format.{Format}
 use Rattle.index.specs.declared.layout.NameIndex.{NameIndex}
@@ -74,7 +75,7 @@ Fits s i = ((parts i).entry_pool ≤ i.end) × (i.end ≤ length s)
 -- the parts of an index that fits: 13 is tested first, 14 next
 unfoldable pub fitted : List ℕ → NameIndex → Outcome Parts
 fitted s i = do
-  refuse_if (ltb longest (length s)) 13 0
-  refuse_if (ltb (length s) i.end) 14 0
-  refuse_if (ltb i.end (parts i).entry_pool) 14 0
+  fail_if (ltb longest (length s)) SectionTooLong
+  fail_if (ltb (length s) i.end) DoesNotFit
+  fail_if (ltb i.end (parts i).entry_pool) DoesNotFit
   answered (parts i)

@@ -1,7 +1,8 @@
 -- An index from a header: document 01, `NameIndex::new`. `s` is the section.
 use Rattle.std.specs.Prelude.{ℕ, cond, List, [], ◌∷◌, length, ltb}
 use Rattle.reader.specs.Outcome.{Outcome, answered, refused, ◌>>=◌, ◌>>◌, refuse_if}
-use Rattle.reader.specs.Errors.{longest}
+use Rattle.reader.specs.declared.error.Error.TheVariants.{DoesNotFit, SectionTooLong, UnexpectedEof}
+use Rattle.reader.specs.Errors.{longest, fail_if, refusal}
 use Rattle.reader.specs.Parts.{skipped}
 use Rattle.abbreviations.specs.Abbreviations.{parsed}
 use Rattle.headers.specs.declared.header.NameIndexHeader.{NameIndexHeader}
@@ -41,7 +42,7 @@ cut_parts s i = do
 unfoldable pub refuse_past : ℕ → List ℕ → Outcome (Unit {0})
 refuse_past end [] = answered tt
 refuse_past end (a ∷ []) = answered tt
-refuse_past end (a ∷ b ∷ rest) = cond (ltb end b) (refused 1 a) (refuse_past end (b ∷ rest))
+refuse_past end (a ∷ b ∷ rest) = cond (ltb end b) (refusal (UnexpectedEof a)) (refuse_past end (b ∷ rest))
 
 unfoldable pub parts_inside : Parts → Outcome Parts
 parts_inside p = do
@@ -61,9 +62,9 @@ parts_inside p = do
 -- the index of a header: 13, then 14, then its parts are cut, and its abbreviation table is read whole
 unfoldable pub name_index : List ℕ → NameIndexHeader → Outcome NameIndex
 name_index s h = do
-  refuse_if (ltb longest (length s)) 13 0
-  refuse_if (ltb (length s) h.content.end) 14 0
-  refuse_if (ltb h.content.end h.content.at) 14 0
+  fail_if (ltb longest (length s)) SectionTooLong
+  fail_if (ltb (length s) h.content.end) DoesNotFit
+  fail_if (ltb h.content.end h.content.at) DoesNotFit
   p ← cut_parts s (index_of h)
   parsed s p.abbreviation_table p.entry_pool
   answered (index_of h)

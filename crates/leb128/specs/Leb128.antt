@@ -5,6 +5,8 @@ use Rattle.std.specs.Prelude.{ℕ, zero, suc, ◌+◌, ◌*◌, ◌^◌, ◌%◌
 use Rattle.std.proofs.Math.Seq.{slice}
 use Rattle.reader.specs.Outcome.{Outcome, answered, ◌>>=◌, ◌>>◌, demand, refuse_if}
 use Rattle.reader.specs.declared.reader.Read.{Read}
+use Rattle.reader.specs.Errors.{fail_if, require}
+use Rattle.reader.specs.declared.error.Error.TheVariants.{BadUnsignedLeb128, UnexpectedEof}
 
 -- the bytes of the number with which a list begins: up to the first below 128, that one included
 unfoldable pub number_bytes : List ℕ → List ℕ
@@ -32,8 +34,8 @@ u16_limit = 16
 -- 2 ^ bits or more: refusal 7 (`ByteByByte` says where it comes). Else, where its last byte is missing, refusal 1 at the place of that byte.
 unfoldable pub number_of_bytes : ℕ → List ℕ → ℕ → Outcome (Read ℕ)
 number_of_bytes bits bs at = do
-  refuse_if (leb (2 ^ bits) (base128 bs)) 7 0
-  demand (complete bs) 1 (at + length bs)
+  fail_if (leb (2 ^ bits) (base128 bs)) BadUnsignedLeb128
+  require (complete bs) (UnexpectedEof (at + length bs))
   answered (record { value = base128 bs; next = at + length bs })
 
 -- the number of a width at `at`, in a part that ends at `end`

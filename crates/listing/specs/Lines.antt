@@ -2,7 +2,8 @@
 use Rattle.std.specs.Prelude.{ℕ, ◌+◌, true, false, cond, List, [], ◌∷◌, length, ltb, leb}
 use Rattle.std.specs.Prelude.{Option, Some, None}
 use Rattle.reader.specs.Outcome.{Outcome, answered, refused, refuse_if}
-use Rattle.reader.specs.Errors.{longest}
+use Rattle.reader.specs.declared.error.Error.TheVariants.{DoesNotFit, SectionTooLong}
+use Rattle.reader.specs.Errors.{longest, fail_if}
 use Rattle.reader.specs.Steps.{Step}
 use Rattle.reader.specs.Listing.{Listing, ended, broken, item, or_broken}
 use Rattle.reader.specs.declared.endianity.RunTimeEndian.{RunTimeEndian}
@@ -31,7 +32,7 @@ header_lines order s listed (item h rest) =
 
 -- the lines of a section
 unfoldable pub section_lines : RunTimeEndian → List ℕ → Listing Line
-section_lines order s = or_broken (refuse_if (ltb longest (length s)) 13 0) λ u. header_lines order s 0 (headers_from order s 0)
+section_lines order s = or_broken (fail_if (ltb longest (length s)) SectionTooLong) λ u. header_lines order s 0 (headers_from order s 0)
 
 -- the cursor before the first line: no index is open
 unfoldable pub first_line : ListingIter
@@ -59,7 +60,7 @@ header_line order s c (Some h) = line_or c (opened_index order s h) λ o. record
 
 -- the step to the next index: a cursor that has listed more indexes than there are bytes before its place does not fit
 unfoldable pub head_step : RunTimeEndian → List ℕ → ListingIter → Step Line ListingIter
-head_step order s c = line_or c (refuse_if (ltb c.at c.listed) 14 0) λ u. line_or c (header_step order s (record { at = c.at })).answer (header_line order s c)
+head_step order s c = line_or c (fail_if (ltb c.at c.listed) DoesNotFit) λ u. line_or c (header_step order s (record { at = c.at })).answer (header_line order s c)
 
 -- the step: the names of the open index, then the next index
 unfoldable pub line_step : RunTimeEndian → List ℕ → ListingIter → Step Line ListingIter

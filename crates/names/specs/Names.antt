@@ -3,7 +3,8 @@
 use Rattle.std.specs.Prelude.{ℕ, ◌+◌, cond, List, length, ltb, leb}
 use Rattle.std.specs.Prelude.{Some, None}
 use Rattle.reader.specs.Outcome.{Outcome, answered, ◌>>=◌, ◌>>◌, refuse_if}
-use Rattle.reader.specs.Errors.{longest}
+use Rattle.reader.specs.declared.error.Error.TheVariants.{SectionTooLong}
+use Rattle.reader.specs.Errors.{longest, fail_if}
 use Rattle.strings.specs.Strings.{get_str, text_bytes}
 use Rattle.strings.specs.declared.Str.{Str}
 use Rattle.reader.specs.Steps.{Step, keeping}
@@ -44,8 +45,8 @@ name_string_offset order s i name = do
 -- the string of a name: 13 for .debug_names, 13 for .debug_str, 14, the string offset, the string
 unfoldable pub name_string : RunTimeEndian → List ℕ → List ℕ → NameIndex → NameTableIndex → Outcome Str
 name_string order s strs i name = do
-  refuse_if (ltb longest (length s)) 13 0
-  refuse_if (ltb longest (length strs)) 13 0
+  fail_if (ltb longest (length s)) SectionTooLong
+  fail_if (ltb longest (length strs)) SectionTooLong
   offset ← name_string_offset order s i name
   get_str strs offset.0
 

@@ -1,6 +1,6 @@
 -- Document 01, "Why a call says no": the number and the value of each refusal, and the limit of refusal 13.
-use Rattle.std.specs.Prelude.{ℕ}
-use Rattle.reader.specs.Outcome.{Outcome, refused}
+use Rattle.std.specs.Prelude.{ℕ, Bool}
+use Rattle.reader.specs.Outcome.{Outcome, refused, demand, refuse_if}
 use Rattle.reader.specs.declared.error.Error.{Error}
 use Rattle.reader.specs.declared.error.Error.TheVariants.{UnexpectedEof, UnknownReservedLength, UnknownVersion, AbbreviationTagZero, AttributeNameZero, AttributeFormZero, BadUnsignedLeb128, InvalidAbbreviationCode, UnknownForm, NoEntryAtGivenOffset, InvalidNameAttributeIndex, UnsupportedAttributeForm, SectionTooLong, DoesNotFit}
 
@@ -40,6 +40,13 @@ value_of DoesNotFit = 0
 -- the refusal, as an outcome
 abbrev pub refusal : {A : Type 0} → Error → Outcome A
 refusal e = refused (number_of e) (value_of e)
+
+-- refuses with the error where the test holds, and goes on where it does not; and the other way round
+abbrev pub fail_if : Bool → Error → Outcome (Unit {0})
+fail_if test e = refuse_if test (number_of e) (value_of e)
+
+abbrev pub require : Bool → Error → Outcome (Unit {0})
+require test e = demand test (number_of e) (value_of e)
 
 -- the most bytes that a lent section may have: more are refusal 13
 unfoldable pub longest : ℕ

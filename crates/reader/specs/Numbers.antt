@@ -9,6 +9,8 @@ use Rattle.reader.specs.declared.endianity.RunTimeEndian.{RunTimeEndian}
 use Rattle.reader.specs.declared.endianity.RunTimeEndian.TheVariants.{Little, Big}
 use Rattle.reader.specs.declared.common.Format.{Format}
 use Rattle.reader.specs.declared.common.Format.TheVariants.{Dwarf32, Dwarf64}
+use Rattle.reader.specs.Errors.{refusal}
+use Rattle.reader.specs.declared.error.Error.TheVariants.{UnknownReservedLength}
 
 -- a list of bytes, as every lent section is: each number is below 256
 pub data Bytes : List ℕ → Type 0 where
@@ -64,4 +66,4 @@ initial_length order s at end = do
       (do
         wide ← read_number 8 order s first.next end
         answered (record { length = wide.value; format = Dwarf64; next = wide.next }))
-      (refused 2 first.value))
+      (refusal (UnknownReservedLength first.value)))

@@ -4,6 +4,8 @@
 use Rattle.std.specs.Prelude.{ℕ, ◌+◌, ◌-◌, ◌<◌, ◌≤◌, min, List, cond, length, leb}
 use Rattle.reader.specs.Outcome.{Outcome, answered, refused, ◌>>=◌}
 use Rattle.reader.specs.declared.reader.Part.{Part}
+use Rattle.reader.specs.Errors.{refusal}
+use Rattle.reader.specs.declared.error.Error.TheVariants.{UnexpectedEof}
 
 -- where the part ends: at `end`, or with the section
 abbrev pub part_end : List ℕ → ℕ → ℕ
@@ -19,7 +21,7 @@ Forward s at end next = (at < next) × (next ≤ part_end s end)
 
 -- the place past n bytes; refusal 1 at `at` where that lies past the part's end
 unfoldable pub skipped : ℕ → List ℕ → ℕ → ℕ → Outcome ℕ
-skipped n s at end = cond (leb (at + n) (part_end s end)) (answered (at + n)) (refused 1 at)
+skipped n s at end = cond (leb (at + n) (part_end s end)) (answered (at + n)) (refusal (UnexpectedEof at))
 
 -- the part of n bytes at `at`, refused as the skip over it is
 unfoldable pub cut : ℕ → List ℕ → ℕ → ℕ → Outcome Part

@@ -2,7 +2,8 @@
 -- that is asked for.
 use Rattle.std.specs.Prelude.{ℕ, List, length, ltb}
 use Rattle.reader.specs.Outcome.{refuse_if}
-use Rattle.reader.specs.Errors.{longest}
+use Rattle.reader.specs.declared.error.Error.TheVariants.{SectionTooLong}
+use Rattle.reader.specs.Errors.{longest, fail_if}
 use Rattle.reader.specs.Listing.{Listing, ended, broken, item, or_broken, followed_by}
 use Rattle.reader.specs.declared.endianity.RunTimeEndian.{RunTimeEndian}
 use Rattle.headers.specs.declared.header.NameIndexHeader.{NameIndexHeader}
@@ -27,7 +28,7 @@ headers_left order s strs hash text at = header_records order s strs hash text (
 -- the records of a section: 13 is tested first, for .debug_names and then for .debug_str
 unfoldable pub section_records : RunTimeEndian → List ℕ → List ℕ → ℕ → List ℕ → Listing Record
 section_records order s strs hash text =
-    or_broken (refuse_if (ltb longest (length s)) 13 0) λ u. or_broken (refuse_if (ltb longest (length strs)) 13 0) λ v. headers_left order s strs hash text 0
+    or_broken (fail_if (ltb longest (length s)) SectionTooLong) λ u. or_broken (fail_if (ltb longest (length strs)) SectionTooLong) λ v. headers_left order s strs hash text 0
 
 -- What single functions of the code leave: the records that a cursor has left, those of its index and those of the headers after it.
 unfoldable pub query_left : RunTimeEndian → List ℕ → List ℕ → ℕ → List ℕ → QueryIter → Listing Record

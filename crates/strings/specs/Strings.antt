@@ -1,7 +1,8 @@
 -- .debug_str: document 01, "Strings".
 use Rattle.std.specs.Prelude.{ℕ, ◌+◌, List, [], ◌∷◌, cond, length, take, drop, ltb, eqb}
 use Rattle.reader.specs.Outcome.{Outcome, answered, refused, ◌>>=◌, ◌>>◌, demand, refuse_if}
-use Rattle.reader.specs.Errors.{longest}
+use Rattle.reader.specs.declared.error.Error.TheVariants.{SectionTooLong, UnexpectedEof}
+use Rattle.reader.specs.Errors.{longest, fail_if, require}
 use Rattle.reader.specs.Parts.{skipped}
 use Rattle.strings.specs.declared.Str.{Str}
 
@@ -17,9 +18,9 @@ zero_from s start = start + length (before_zero (drop start s))
 -- the string at an offset: up to the first zero byte; refusal 1 at its start where there is none, and at 0 where the offset lies past the end
 unfoldable pub get_str : List ℕ → ℕ → Outcome Str
 get_str s offset = do
-  refuse_if (ltb longest (length s)) 13 0
+  fail_if (ltb longest (length s)) SectionTooLong
   start ← skipped offset s 0 (length s)
-  demand (ltb (zero_from s start) (length s)) 1 start
+  require (ltb (zero_from s start) (length s)) (UnexpectedEof start)
   answered (record { start = start; len = length (before_zero (drop start s)) })
 
 -- the bytes that stand there; none where it is refused

@@ -8,6 +8,8 @@ use Rattle.index.specs.Layout.{parts, fitted}
 use Rattle.reader.specs.Lists.{numbers_from, filterb, memberb}
 use Rattle.hashes.specs.Table.{stored_start, stored_hash, bucket_of, names_from, run}
 use Rattle.tables.specs.declared.TableCheck.{TableCheck}
+use Rattle.reader.specs.Errors.{fail_if}
+use Rattle.reader.specs.declared.error.Error.TheVariants.{UnexpectedEof}
 
 -- Whether a bucket's start is above N + 1, and whether some bucket has such a start. Document 01 refuses at the lowest of these; which one that is makes
 -- no difference, since the refusal is the same. A start of N + 1 is one past the last name, and no refusal in gimli.
@@ -36,5 +38,5 @@ table_check order s i = do
   cond (eqb i.bucket_count 0)
       (answered TableCheck.NoTable)
       (do
-        refuse_if (any_above i.name_count (stored_start order s p) i.bucket_count) 1 p.hash_table_data
+        fail_if (any_above i.name_count (stored_start order s p) i.bucket_count) (UnexpectedEof p.hash_table_data)
         answered (verdict (stored_hash order s p) (missed_names order s i)))
