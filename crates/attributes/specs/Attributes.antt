@@ -12,6 +12,7 @@ use Rattle.attributes.specs.declared.facts.Facts.{Facts}
 use Rattle.reader.specs.declared.reader.Read.{Read}
 use Rattle.reader.specs.Errors.{refusal}
 use Rattle.reader.specs.declared.error.Error.TheVariants.{UnexpectedEof}
+use Rattle.reader.specs.Parts.{Section}
 
 -- an attribute: its name, its form and its value
 pub record NameAttribute : Type 0 where
@@ -27,14 +28,6 @@ pub record Values : Type 0 where
 -- an attribute before others
 abbrev pub value_then : ℕ → ℕ → NameAttributeValue → Values → Values
 value_then name form value rest = record { list = record { name = name; form = form; value = value } ∷ rest.list; next = rest.next }
-
--- the values of the attributes that a declaration names, each beginning where the last ended
-unfoldable pub values : RunTimeEndian → List ℕ → List Attribute → ℕ → ℕ → Outcome Values
-values order s [] at end = answered (record { list = []; next = at })
-values order s (a ∷ more) at end = do
-  v ← form_value a.form order s at end
-  rest ← values order s more v.next end
-  answered (value_then a.name a.form v.value rest)
 
 -- what is kept of an attribute: its form and its value
 abbrev pub kept : ℕ → NameAttributeValue → FirstAttribute
@@ -71,10 +64,20 @@ facts list = record {
   type_hash = first type_hash_name list;
 }
 
+-- a section, in its byte order
+module _ (order : RunTimeEndian) (s : Section) where
+  -- the values of the attributes that a declaration names, each beginning where the last ended
+  unfoldable pub values : List Attribute → ℕ → ℕ → Outcome Values
+  values [] at end = answered (record { list = []; next = at })
+  values (a ∷ more) at end = do
+    v ← form_value a.form order s at end
+    rest ← values more v.next end
+    answered (value_then a.name a.form v.value rest)
+
 -- What single functions of the code answer, for any places. The values, where the pairs of name and form are read from `pairs` on as
 -- they are needed: a pair that is refused gives its refusal when its turn comes. For the pairs of a declaration, which can all be
 -- read, this is `values` (`values-declared`). Given as many turns as bytes are left of the pairs, it has turns enough (`turn_step`).
-unfoldable pub values_in : ℕ → RunTimeEndian → List ℕ → ℕ → ℕ → ℕ → ℕ → Outcome Values
+unfoldable pub values_in : ℕ → RunTimeEndian → Section → ℕ → ℕ → ℕ → ℕ → Outcome Values
 values_in zero order s pairs pairsEnd at end = refusal (UnexpectedEof pairs)
 values_in (suc turns) order s pairs pairsEnd at end = do
   p ← pair s pairs pairsEnd
@@ -83,15 +86,6 @@ values_in (suc turns) order s pairs pairsEnd at end = do
     v ← form_value p.form order s at end
     rest ← more v.next
     answered (value_then p.name p.form v.value rest))
-
-unfoldable pub values_from : RunTimeEndian → List ℕ → ℕ → ℕ → ℕ → ℕ → Outcome Values
-values_from order s pairs pairsEnd at end = values_in (left_at s pairs pairsEnd) order s pairs pairsEnd at end
-
--- the facts of these, and the place past them
-unfoldable pub facts_read : RunTimeEndian → List ℕ → ℕ → ℕ → ℕ → ℕ → Outcome (Read Facts)
-facts_read order s pairs pairsEnd at end = do
-  v ← values_from order s pairs pairsEnd at end
-  answered (record { value = facts v.list; next = v.next })
 
 -- facts that were kept, with one more attribute: it counts where it is the first of its name
 abbrev pub or_else : Option FirstAttribute → FirstAttribute → Option FirstAttribute
@@ -112,3 +106,15 @@ with_fact f name a = record {
 
 abbrev pub no_facts : Facts
 no_facts = record { compile_unit = None; type_unit = None; die_offset = None; parent = None; type_hash = None }
+
+-- a section, in its byte order
+module _ (order : RunTimeEndian) (s : Section) where
+  -- the same, with turns enough
+  unfoldable pub values_from : ℕ → ℕ → ℕ → ℕ → Outcome Values
+  values_from pairs pairsEnd at end = values_in (left_at s pairs pairsEnd) order s pairs pairsEnd at end
+
+  -- the facts of these, and the place past them
+  unfoldable pub facts_read : ℕ → ℕ → ℕ → ℕ → Outcome (Read Facts)
+  facts_read pairs pairsEnd at end = do
+    v ← values_from pairs pairsEnd at end
+    answered (record { value = facts v.list; next = v.next })

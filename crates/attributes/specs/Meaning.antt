@@ -13,6 +13,7 @@ use Rattle.reader.specs.declared.common.DebugInfoOffset.{DebugInfoOffset}
 use Rattle.reader.specs.declared.common.UnitOffset.{UnitOffset}
 use Rattle.reader.specs.Errors.{refusal}
 use Rattle.reader.specs.declared.error.Error.TheVariants.{InvalidNameAttributeIndex, UnsupportedAttributeForm}
+use Rattle.reader.specs.Parts.{Section}
 
 -- the number of a unit: unsigned, else 12 with the form; and of at most 32 bits, else 11 with the number
 unfoldable pub unit_number_in : ℕ → NameAttributeValue → Outcome (Option ℕ)
@@ -23,30 +24,6 @@ unit_number_in form (NameAttributeValue.Flag b) = refusal (UnsupportedAttributeF
 unfoldable pub unit_number : Option FirstAttribute → Outcome (Option ℕ)
 unit_number None = answered None
 unit_number (Some a) = unit_number_in a.form a.value
-
--- the unit of that number in the index
-unfoldable pub numbered_unit : RunTimeEndian → List ℕ → NameIndex → Option ℕ → Outcome (Option DebugInfoOffset)
-numbered_unit order s i (Some k) = do
-  unit ← nth_compile_unit order s i k
-  answered (Some unit)
-numbered_unit order s i None = answered None
-
-unfoldable pub numbered_type_unit : RunTimeEndian → List ℕ → NameIndex → Option ℕ → Outcome (Option NameTypeUnit)
-numbered_type_unit order s i (Some k) = do
-  unit ← nth_type_unit order s i k
-  answered (Some unit)
-numbered_type_unit order s i None = answered None
-
--- the compile unit, and the type unit, that the attribute names
-unfoldable pub compile_unit_of : RunTimeEndian → List ℕ → NameIndex → Option FirstAttribute → Outcome (Option DebugInfoOffset)
-compile_unit_of order s i f = do
-  number ← unit_number f
-  numbered_unit order s i number
-
-unfoldable pub type_unit_of : RunTimeEndian → List ℕ → NameIndex → Option FirstAttribute → Outcome (Option NameTypeUnit)
-type_unit_of order s i f = do
-  number ← unit_number f
-  numbered_type_unit order s i number
 
 -- the offset of the DIE: an offset
 unfoldable pub die_offset_in : ℕ → NameAttributeValue → Outcome (Option UnitOffset)
@@ -77,3 +54,29 @@ type_hash_in form (NameAttributeValue.Flag b) = refusal (UnsupportedAttributeFor
 unfoldable pub type_hash_of : Option FirstAttribute → Outcome (Option ℕ)
 type_hash_of None = answered None
 type_hash_of (Some a) = type_hash_in a.form a.value
+
+-- a section, in its byte order
+module _ (order : RunTimeEndian) (s : Section) where
+  -- the unit of that number in the index
+  unfoldable pub numbered_unit : NameIndex → Option ℕ → Outcome (Option DebugInfoOffset)
+  numbered_unit i (Some k) = do
+    unit ← nth_compile_unit order s i k
+    answered (Some unit)
+  numbered_unit i None = answered None
+
+  unfoldable pub numbered_type_unit : NameIndex → Option ℕ → Outcome (Option NameTypeUnit)
+  numbered_type_unit i (Some k) = do
+    unit ← nth_type_unit order s i k
+    answered (Some unit)
+  numbered_type_unit i None = answered None
+
+  -- the compile unit, and the type unit, that the attribute names
+  unfoldable pub compile_unit_of : NameIndex → Option FirstAttribute → Outcome (Option DebugInfoOffset)
+  compile_unit_of i f = do
+    number ← unit_number f
+    numbered_unit i number
+
+  unfoldable pub type_unit_of : NameIndex → Option FirstAttribute → Outcome (Option NameTypeUnit)
+  type_unit_of i f = do
+    number ← unit_number f
+    numbered_type_unit i number

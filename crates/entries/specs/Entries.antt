@@ -18,6 +18,7 @@ use Rattle.attributes.specs.Attributes.{NameAttribute, values, facts}
 use Rattle.entries.specs.declared.entry.NameEntry.{NameEntry}
 use Rattle.entries.specs.declared.entry.WholeEntry.{WholeEntry}
 use Rattle.entries.specs.declared.entry.EntryAt.{EntryAt}
+use Rattle.reader.specs.Parts.{Section}
 
 -- an entry: its handle, which is its offset in the pool, its abbreviation code, its tag, its attributes in order, each with name, form
 -- and value, and the place after them
@@ -36,33 +37,35 @@ or_refuse None n v = refused n v
 abbrev pub or_fail : {A : Type 0} → Option A → Error → Outcome A
 or_fail o e = or_refuse o (number_of e) (value_of e)
 
--- the entry at a place of the pool, none at code 0: its code's declaration, 8 where there is none, says which attributes follow
-unfoldable pub entry : RunTimeEndian → List ℕ → Parts → ℕ → Outcome (Option Entry)
-entry order s p at = do
-  code ← leb128 unsigned_limit s at p.end
-  cond (eqb code.value 0) (answered None) (do
-    declared ← find code.value (table s p.abbreviation_table p.entry_pool)
-    d ← or_fail declared (InvalidAbbreviationCode code.value)
-    v ← values order s d.attributes code.next p.end
-    answered (Some (record { offset = at - p.entry_pool; code = code.value; tag = d.tag; attributes = v.list; next = v.next })))
-
--- the entry with that handle: skip so far into the pool, then read; at code 0 it is 10
-unfoldable pub name_entry : RunTimeEndian → List ℕ → NameIndex → NameEntryOffset → Outcome Entry
-name_entry order s i offset = do
-  p ← fitted s i
-  at ← skipped offset.0 s p.entry_pool p.end
-  e ← entry order s p at
-  or_fail e (NoEntryAtGivenOffset offset)
-
 -- an entry as a call answers it: its handle, its code and its tag
 abbrev pub handed : Entry → NameEntry
 handed e = record { offset = record { 0 = e.offset }; abbrev_code = e.code; tag = e.tag }
 
--- `name_entry`
-unfoldable pub name_entry_handed : RunTimeEndian → List ℕ → NameIndex → NameEntryOffset → Outcome NameEntry
-name_entry_handed order s i offset = do
-  e ← name_entry order s i offset
-  answered (handed e)
+-- a section, in its byte order
+module _ (order : RunTimeEndian) (s : Section) where
+  -- the entry at a place of the pool, none at code 0: its code's declaration, 8 where there is none, says which attributes follow
+  unfoldable pub entry : Parts → ℕ → Outcome (Option Entry)
+  entry p at = do
+    code ← leb128 unsigned_limit s at p.end
+    cond (eqb code.value 0) (answered None) (do
+      declared ← find code.value (table s p.abbreviation_table p.entry_pool)
+      d ← or_fail declared (InvalidAbbreviationCode code.value)
+      v ← values order s d.attributes code.next p.end
+      answered (Some (record { offset = at - p.entry_pool; code = code.value; tag = d.tag; attributes = v.list; next = v.next })))
+
+  -- the entry with that handle: skip so far into the pool, then read; at code 0 it is 10
+  unfoldable pub name_entry : NameIndex → NameEntryOffset → Outcome Entry
+  name_entry i offset = do
+    p ← fitted s i
+    at ← skipped offset.0 s p.entry_pool p.end
+    e ← entry p at
+    or_fail e (NoEntryAtGivenOffset offset)
+
+  -- `name_entry`
+  unfoldable pub name_entry_handed : NameIndex → NameEntryOffset → Outcome NameEntry
+  name_entry_handed i offset = do
+    e ← name_entry i offset
+    answered (handed e)
 
 -- the same of what a pass over it tells
 abbrev pub less_whole : EntryAt → NameEntry
@@ -80,14 +83,16 @@ abbrev pub whole_of : Option Entry → Option WholeEntry
 whole_of None = None
 whole_of (Some e) = Some (whole e)
 
--- `read_entry`
-unfoldable pub entry_read : RunTimeEndian → List ℕ → Parts → ℕ → Outcome (Option WholeEntry)
-entry_read order s p at = do
-  e ← entry order s p at
-  answered (whole_of e)
+-- a section, in its byte order
+module _ (order : RunTimeEndian) (s : Section) where
+  -- `read_entry`
+  unfoldable pub entry_read : Parts → ℕ → Outcome (Option WholeEntry)
+  entry_read p at = do
+    e ← entry order s p at
+    answered (whole_of e)
 
--- `whole_entry`
-unfoldable pub whole_entry : RunTimeEndian → List ℕ → NameIndex → NameEntryOffset → Outcome WholeEntry
-whole_entry order s i offset = do
-  e ← name_entry order s i offset
-  answered (whole e)
+  -- `whole_entry`
+  unfoldable pub whole_entry : NameIndex → NameEntryOffset → Outcome WholeEntry
+  whole_entry i offset = do
+    e ← name_entry order s i offset
+    answered (whole e)

@@ -12,28 +12,31 @@ use Rattle.entries.specs.Entries.{name_entry}
 use Rattle.names.specs.declared.units.NameTypeUnit.{NameTypeUnit}
 use Rattle.reader.specs.declared.common.DebugInfoOffset.{DebugInfoOffset}
 use Rattle.reader.specs.declared.common.UnitOffset.{UnitOffset}
+use Rattle.reader.specs.Parts.{Section}
 
-unfoldable pub entry_compile_unit : RunTimeEndian → List ℕ → NameIndex → NameEntryOffset → Outcome (Option DebugInfoOffset)
-entry_compile_unit order s i offset = do
-  e ← name_entry order s i offset
-  compile_unit_of order s i (first compile_unit_name e.attributes)
+-- a section, in its byte order
+module _ (order : RunTimeEndian) (s : Section) where
+  unfoldable pub entry_compile_unit : NameIndex → NameEntryOffset → Outcome (Option DebugInfoOffset)
+  entry_compile_unit i offset = do
+    e ← name_entry order s i offset
+    compile_unit_of order s i (first compile_unit_name e.attributes)
 
-unfoldable pub entry_type_unit : RunTimeEndian → List ℕ → NameIndex → NameEntryOffset → Outcome (Option NameTypeUnit)
-entry_type_unit order s i offset = do
-  e ← name_entry order s i offset
-  type_unit_of order s i (first type_unit_name e.attributes)
+  unfoldable pub entry_type_unit : NameIndex → NameEntryOffset → Outcome (Option NameTypeUnit)
+  entry_type_unit i offset = do
+    e ← name_entry order s i offset
+    type_unit_of order s i (first type_unit_name e.attributes)
 
-unfoldable pub entry_die_offset : RunTimeEndian → List ℕ → NameIndex → NameEntryOffset → Outcome (Option UnitOffset)
-entry_die_offset order s i offset = do
-  e ← name_entry order s i offset
-  die_offset_of (first die_offset_name e.attributes)
+  unfoldable pub entry_die_offset : NameIndex → NameEntryOffset → Outcome (Option UnitOffset)
+  entry_die_offset i offset = do
+    e ← name_entry order s i offset
+    die_offset_of (first die_offset_name e.attributes)
 
-unfoldable pub entry_parent : RunTimeEndian → List ℕ → NameIndex → NameEntryOffset → Outcome EntryParent
-entry_parent order s i offset = do
-  e ← name_entry order s i offset
-  parent_of (first parent_name e.attributes)
+  unfoldable pub entry_parent : NameIndex → NameEntryOffset → Outcome EntryParent
+  entry_parent i offset = do
+    e ← name_entry order s i offset
+    parent_of (first parent_name e.attributes)
 
-unfoldable pub entry_type_hash : RunTimeEndian → List ℕ → NameIndex → NameEntryOffset → Outcome (Option ℕ)
-entry_type_hash order s i offset = do
-  e ← name_entry order s i offset
-  type_hash_of (first type_hash_name e.attributes)
+  unfoldable pub entry_type_hash : NameIndex → NameEntryOffset → Outcome (Option ℕ)
+  entry_type_hash i offset = do
+    e ← name_entry order s i offset
+    type_hash_of (first type_hash_name e.attributes)

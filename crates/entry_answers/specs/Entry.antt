@@ -23,6 +23,7 @@ use Rattle.answers.specs.Answers.{given, nothing, refused_answer, handed, type_u
 use Rattle.names.specs.declared.units.NameTypeUnit.{NameTypeUnit}
 use Rattle.reader.specs.declared.common.DebugInfoOffset.{DebugInfoOffset}
 use Rattle.reader.specs.declared.common.UnitOffset.{UnitOffset}
+use Rattle.reader.specs.Parts.{Section}
 
 -- what is handed over of a fact
 abbrev pub compile_unit_fact : Option DebugInfoOffset → Answer
@@ -47,7 +48,7 @@ type_hash_fact (Some h) = given 1 h
 type_hash_fact None = nothing
 
 -- the facts of the entry with a handle
-unfoldable pub facts_at : RunTimeEndian → List ℕ → NameIndex → NameEntryOffset → EntryFacts
+unfoldable pub facts_at : RunTimeEndian → Section → NameIndex → NameEntryOffset → EntryFacts
 facts_at order s i offset = record {
   compile_unit = handed compile_unit_fact (entry_compile_unit order s i offset);
   type_unit = handed type_unit_fact (entry_type_unit order s i offset);
@@ -91,7 +92,7 @@ abbrev pub entry_answer_in : EntryFacts → Outcome NameEntry → EntryAnswer
 entry_answer_in facts (answered e) = shown_entry facts 0 e
 entry_answer_in facts (refused n v) = refused_entry 0 n v
 
-unfoldable pub entry_answer : RunTimeEndian → List ℕ → NameIndex → NameEntryOffset → EntryAnswer
+unfoldable pub entry_answer : RunTimeEndian → Section → NameIndex → NameEntryOffset → EntryAnswer
 entry_answer order s i offset = entry_answer_in (facts_at order s i offset) (name_entry_handed order s i offset)
 
 -- a step: its entry with the facts that its handle has
@@ -100,11 +101,11 @@ entry_step_in facts next (answered (Some e)) = shown_entry (facts e.offset) next
 entry_step_in facts next (answered None) = ended_series next
 entry_step_in facts next (refused n v) = refused_entry next n v
 
-unfoldable pub entry_step_answer : RunTimeEndian → List ℕ → NameIndex → NameEntryIter → EntryAnswer
+unfoldable pub entry_step_answer : RunTimeEndian → Section → NameIndex → NameEntryIter → EntryAnswer
 entry_step_answer order s i c = entry_step_in (facts_at order s i) (entry_step order s i c).cursor.at (entry_step order s i c).answer
 
 -- What single functions of the code answer: one pass over an entry keeps the first attribute of each name, and these say its facts.
-unfoldable pub facts_of : RunTimeEndian → List ℕ → NameIndex → Facts → EntryFacts
+unfoldable pub facts_of : RunTimeEndian → Section → NameIndex → Facts → EntryFacts
 facts_of order s i f = record {
   compile_unit = handed compile_unit_fact (compile_unit_of order s i f.compile_unit);
   type_unit = handed type_unit_fact (type_unit_of order s i f.type_unit);
@@ -114,7 +115,7 @@ facts_of order s i f = record {
 }
 
 -- the entry with a handle, and a step, of an entry that was read whole
-unfoldable pub whole_answer : RunTimeEndian → List ℕ → NameIndex → NameEntryOffset → Outcome WholeEntry → EntryAnswer
+unfoldable pub whole_answer : RunTimeEndian → Section → NameIndex → NameEntryOffset → Outcome WholeEntry → EntryAnswer
 whole_answer order s i offset (answered w) = shown_entry (facts_of order s i w.facts) 0 (less_whole (record { offset = offset; entry = w }))
 whole_answer order s i offset (refused n v) = refused_entry 0 n v
 
@@ -123,5 +124,5 @@ whole_step_in facts next (answered (Some t)) = shown_entry (facts t.entry.facts)
 whole_step_in facts next (answered None) = ended_series next
 whole_step_in facts next (refused n v) = refused_entry next n v
 
-unfoldable pub whole_step_answer : RunTimeEndian → List ℕ → NameIndex → Step EntryAt NameEntryIter → EntryAnswer
+unfoldable pub whole_step_answer : RunTimeEndian → Section → NameIndex → Step EntryAt NameEntryIter → EntryAnswer
 whole_step_answer order s i t = whole_step_in (facts_of order s i) t.cursor.at t.answer

@@ -9,6 +9,7 @@ use Rattle.reader.specs.declared.endianity.RunTimeEndian.{RunTimeEndian}
 use Rattle.forms.specs.declared.NameAttributeValue.{NameAttributeValue}
 use Rattle.reader.specs.Errors.{refusal}
 use Rattle.reader.specs.declared.error.Error.TheVariants.{UnknownForm}
+use Rattle.reader.specs.Parts.{Section}
 
 -- a number that was read, as a flag (true unless it is 0), as an unsigned number, or as an offset
 unfoldable pub as_flag : Outcome (Read ℕ) → Outcome (Read NameAttributeValue)
@@ -28,7 +29,7 @@ as_offset read = do
 
 -- the form's code selects the reading: flag, flag_present; data1, data2, data4, data8, udata; ref1, ref2, ref4, ref8, ref_udata;
 -- any other is 9
-unfoldable pub form_value : ℕ → RunTimeEndian → List ℕ → ℕ → ℕ → Outcome (Read NameAttributeValue)
+unfoldable pub form_value : ℕ → RunTimeEndian → Section → ℕ → ℕ → Outcome (Read NameAttributeValue)
 form_value form order s at end =
     cond (eqb form 0x0c) (as_flag (read_byte s at end))
     (cond (eqb form 0x19) (answered (record { value = NameAttributeValue.Flag true; next = at }))

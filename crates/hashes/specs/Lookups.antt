@@ -16,6 +16,7 @@ use Rattle.hashes.specs.declared.hash.Found.{Found}
 use Rattle.hashes.specs.Table.{stored_hash, bucket_of, run_from, examined_from, storing}
 use Rattle.reader.specs.Errors.{fail_if}
 use Rattle.reader.specs.declared.error.Error.TheVariants.{DoesNotFit}
+use Rattle.reader.specs.Parts.{Section}
 
 -- a bucket's cursor before a name, and a hash's
 abbrev pub bucket_cursor : ℕ → ℕ → NameBucketIter
@@ -24,34 +25,10 @@ bucket_cursor bucket name = record { name_table_index = record { 0 = name }; buc
 abbrev pub hash_cursor : ℕ → ℕ → ℕ → NameHashIter
 hash_cursor bucket hash name = record { bucket_iter = Some (bucket_cursor bucket name); hash = hash }
 
--- a bucket's first name, in a table whose starts lie at `starts` and whose hashes lie from `hashes` up to `end`: the bucket's start is skipped to
--- and read; 0 is none; then the hashes before the first name are skipped
-unfoldable pub first_name : RunTimeEndian → List ℕ → ℕ → ℕ → ℕ → ℕ → Outcome (Option ℕ)
-first_name order s starts hashes end bucket = do
-  place ← skipped (4 * bucket) s starts hashes
-  start ← read_number 4 order s place hashes
-  cond (eqb start.value 0)
-      (answered None)
-      (do
-        skipped (4 * (start.value - 1)) s hashes end
-        answered (Some (start.value - 1)))
-
--- `find_by_bucket`: the cursor before it
+-- the cursor before a bucket's first name, if there is one
 abbrev pub cursor_before : ℕ → Option ℕ → Option NameBucketIter
 cursor_before bucket None = None
 cursor_before bucket (Some name) = Some (bucket_cursor bucket name)
-
-unfoldable pub find_by_bucket : RunTimeEndian → List ℕ → NameIndex → ℕ → Outcome (Option NameBucketIter)
-find_by_bucket order s i bucket = do
-  p ← fitted s i
-  first ← first_name order s p.bucket_data p.hash_table_data p.name_table_data bucket
-  answered (cursor_before bucket first)
-
--- `find_by_hash`: the lookup of the hash's bucket
-unfoldable pub find_by_hash : RunTimeEndian → List ℕ → NameIndex → ℕ → Outcome NameHashIter
-find_by_hash order s i hash = do
-  found ← find_by_bucket order s i (bucket_of i hash)
-  answered (record { bucket_iter = found; hash = hash })
 
 -- a search that ended at a name, the number after it next; and one that ended without a name, at the number given
 abbrev pub found_at : ℕ → Found
@@ -73,10 +50,6 @@ next_in_bucket i hash_of bucket name = first_or (run_from i hash_of bucket name)
 unfoldable pub next_storing : NameIndex → (ℕ → ℕ) → ℕ → ℕ → ℕ → Found
 next_storing i hash_of bucket hash name = first_or (storing hash_of hash (run_from i hash_of bucket name)) (name + length (examined_from i hash_of bucket name))
 
--- a name and its hash, as a step over a bucket shows it
-abbrev pub hashed : RunTimeEndian → List ℕ → Parts → ℕ → BucketName
-hashed order s p name = record { name = record { 0 = name }; hash = stored_hash order s p name }
-
 -- what a step answers where the search ended so
 abbrev pub bucket_moved : (ℕ → BucketName) → ℕ → Found → Step BucketName NameBucketIter
 bucket_moved shown bucket f = record { answer = answered (option_map shown f.name); cursor = bucket_cursor bucket f.next }
@@ -84,21 +57,52 @@ bucket_moved shown bucket f = record { answer = answered (option_map shown f.nam
 abbrev pub hash_moved : ℕ → ℕ → Found → Step NameTableIndex NameHashIter
 hash_moved bucket hash f = record { answer = answered (option_map (λ name. record { 0 = name }) f.name); cursor = hash_cursor bucket hash f.next }
 
--- The steps. 13 and 14 of the index are tested first, then that the bucket is below B.
-unfoldable pub bucket_step : RunTimeEndian → List ℕ → NameIndex → NameBucketIter → Step BucketName NameBucketIter
-bucket_step order s i c = keeping c (do
-  p ← fitted s i
-  fail_if (leb i.bucket_count c.bucket_index) DoesNotFit
-  answered (bucket_moved (hashed order s p) c.bucket_index (next_in_bucket i (stored_hash order s p) c.bucket_index c.name_table_index.0)))
+-- a section, in its byte order
+module _ (order : RunTimeEndian) (s : Section) where
+  -- a bucket's first name, in a table whose starts lie at `starts` and whose hashes lie from `hashes` up to `end`: the bucket's start is skipped to
+  -- and read; 0 is none; then the hashes before the first name are skipped
+  unfoldable pub first_name : ℕ → ℕ → ℕ → ℕ → Outcome (Option ℕ)
+  first_name starts hashes end bucket = do
+    place ← skipped (4 * bucket) s starts hashes
+    start ← read_number 4 order s place hashes
+    cond (eqb start.value 0)
+        (answered None)
+        (do
+          skipped (4 * (start.value - 1)) s hashes end
+          answered (Some (start.value - 1)))
 
--- a hash's cursor that holds no bucket cursor is at its end
-abbrev hash_step_in : RunTimeEndian → List ℕ → NameIndex → Parts → NameHashIter → Option NameBucketIter → Outcome (Step NameTableIndex NameHashIter)
-hash_step_in order s i p c None = answered (record { answer = answered None; cursor = c })
-hash_step_in order s i p c (Some b) = do
-  fail_if (leb i.bucket_count b.bucket_index) DoesNotFit
-  answered (hash_moved b.bucket_index c.hash (next_storing i (stored_hash order s p) b.bucket_index c.hash b.name_table_index.0))
+  -- `find_by_bucket`: the cursor before the bucket's first name
+  unfoldable pub find_by_bucket : NameIndex → ℕ → Outcome (Option NameBucketIter)
+  find_by_bucket i bucket = do
+    p ← fitted s i
+    first ← first_name p.bucket_data p.hash_table_data p.name_table_data bucket
+    answered (cursor_before bucket first)
 
-unfoldable pub hash_step : RunTimeEndian → List ℕ → NameIndex → NameHashIter → Step NameTableIndex NameHashIter
-hash_step order s i c = keeping c (do
-  p ← fitted s i
-  hash_step_in order s i p c c.bucket_iter)
+  -- `find_by_hash`: the lookup of the hash's bucket
+  unfoldable pub find_by_hash : NameIndex → ℕ → Outcome NameHashIter
+  find_by_hash i hash = do
+    found ← find_by_bucket i (bucket_of i hash)
+    answered (record { bucket_iter = found; hash = hash })
+
+  -- a name and its hash, as a step over a bucket shows it
+  abbrev pub hashed : Parts → ℕ → BucketName
+  hashed p name = record { name = record { 0 = name }; hash = stored_hash order s p name }
+
+  -- The steps. 13 and 14 of the index are tested first, then that the bucket is below B.
+  unfoldable pub bucket_step : NameIndex → NameBucketIter → Step BucketName NameBucketIter
+  bucket_step i c = keeping c (do
+    p ← fitted s i
+    fail_if (leb i.bucket_count c.bucket_index) DoesNotFit
+    answered (bucket_moved (hashed p) c.bucket_index (next_in_bucket i (stored_hash order s p) c.bucket_index c.name_table_index.0)))
+
+  -- a hash's cursor that holds no bucket cursor is at its end
+  abbrev hash_step_in : NameIndex → Parts → NameHashIter → Option NameBucketIter → Outcome (Step NameTableIndex NameHashIter)
+  hash_step_in i p c None = answered (record { answer = answered None; cursor = c })
+  hash_step_in i p c (Some b) = do
+    fail_if (leb i.bucket_count b.bucket_index) DoesNotFit
+    answered (hash_moved b.bucket_index c.hash (next_storing i (stored_hash order s p) b.bucket_index c.hash b.name_table_index.0))
+
+  unfoldable pub hash_step : NameIndex → NameHashIter → Step NameTableIndex NameHashIter
+  hash_step i c = keeping c (do
+    p ← fitted s i
+    hash_step_in i p c c.bucket_iter)

@@ -7,18 +7,7 @@ use Rattle.index.specs.declared.layout.NameIndex.{NameIndex}
 use Rattle.index.specs.declared.layout.Parts.{Parts}
 use Rattle.index.specs.Layout.{parts}
 use Rattle.reader.specs.Lists.{numbers_from, filterb, take_while}
-
--- the number of four bytes at a position of a table of such numbers
-unfoldable pub nth_of : RunTimeEndian → List ℕ → ℕ → ℕ → ℕ
-nth_of order s table position = number_at order 4 s (table + 4 * position)
-
--- in an index with these parts, the start that is stored for a bucket: one more than the number of its first name, and 0 for a bucket without names
-unfoldable pub stored_start : RunTimeEndian → List ℕ → Parts → ℕ → ℕ
-stored_start order s p = nth_of order s p.bucket_data
-
--- and the hash that is stored for a name
-unfoldable pub stored_hash : RunTimeEndian → List ℕ → Parts → ℕ → ℕ
-stored_hash order s p = nth_of order s p.hash_table_data
+use Rattle.reader.specs.Parts.{Section}
 
 -- the bucket of a hash: the hash modulo B; without buckets gimli looks for bucket 0
 unfoldable pub bucket_of : NameIndex → ℕ → ℕ
@@ -40,22 +29,36 @@ examined_from i hash_of bucket name = take (suc (length (run_from i hash_of buck
 unfoldable pub from_start : ℕ → (ℕ → List ℕ) → List ℕ
 from_start start from = cond (eqb start 0) [] (from (start - 1))
 
--- A bucket's run, with start s: names s-1, s and on, below N, as long as each stored hash modulo B is the bucket.
-unfoldable pub run : RunTimeEndian → List ℕ → NameIndex → ℕ → List ℕ
-run order s i bucket = from_start (stored_start order s (parts i) bucket) (run_from i (stored_hash order s (parts i)) bucket)
-
--- the names examined to list a bucket's run
-unfoldable pub examined : RunTimeEndian → List ℕ → NameIndex → ℕ → List ℕ
-examined order s i bucket = from_start (stored_start order s (parts i) bucket) (examined_from i (stored_hash order s (parts i)) bucket)
-
 -- of these names, those that store the hash
 unfoldable pub storing : (ℕ → ℕ) → ℕ → List ℕ → List ℕ
 storing hash_of hash = filterb λ n. eqb (hash_of n) hash
 
--- the names of a hash: those of its bucket's run that store it
-unfoldable pub names_of_hash : RunTimeEndian → List ℕ → NameIndex → ℕ → List ℕ
-names_of_hash order s i hash = storing (stored_hash order s (parts i)) hash (run order s i (bucket_of i hash))
+-- a section, in its byte order
+module _ (order : RunTimeEndian) (s : Section) where
+  -- the number of four bytes at a position of a table of such numbers
+  unfoldable pub nth_of : ℕ → ℕ → ℕ
+  nth_of table position = number_at order 4 s (table + 4 * position)
 
--- all names that store a hash, in whatever bucket's run they are, ascending
-unfoldable pub all_storing : RunTimeEndian → List ℕ → NameIndex → ℕ → List ℕ
-all_storing order s i hash = storing (stored_hash order s (parts i)) hash (names_from i 0)
+  -- in an index with these parts, the start that is stored for a bucket: one more than the number of its first name, and 0 for a bucket without names
+  unfoldable pub stored_start : Parts → ℕ → ℕ
+  stored_start p = nth_of p.bucket_data
+
+  -- and the hash that is stored for a name
+  unfoldable pub stored_hash : Parts → ℕ → ℕ
+  stored_hash p = nth_of p.hash_table_data
+
+  -- A bucket's run, with start s: names s-1, s and on, below N, as long as each stored hash modulo B is the bucket.
+  unfoldable pub run : NameIndex → ℕ → List ℕ
+  run i bucket = from_start (stored_start (parts i) bucket) (run_from i (stored_hash (parts i)) bucket)
+
+  -- the names examined to list a bucket's run
+  unfoldable pub examined : NameIndex → ℕ → List ℕ
+  examined i bucket = from_start (stored_start (parts i) bucket) (examined_from i (stored_hash (parts i)) bucket)
+
+  -- the names of a hash: those of its bucket's run that store it
+  unfoldable pub names_of_hash : NameIndex → ℕ → List ℕ
+  names_of_hash i hash = storing (stored_hash (parts i)) hash (run i (bucket_of i hash))
+
+  -- all names that store a hash, in whatever bucket's run they are, ascending
+  unfoldable pub all_storing : NameIndex → ℕ → List ℕ
+  all_storing i hash = storing (stored_hash (parts i)) hash (names_from i 0)

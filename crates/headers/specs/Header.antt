@@ -11,39 +11,7 @@ use Rattle.headers.specs.declared.header.AugmentationString.{AugmentationString}
 use Rattle.headers.specs.declared.header.NameIndexHeader.{NameIndexHeader}
 use Rattle.reader.specs.Errors.{require}
 use Rattle.reader.specs.declared.error.Error.TheVariants.{UnknownVersion}
-
--- the part of the index whose header begins at `at`: as many bytes as its length says, past the length
-unfoldable pub header_cut : RunTimeEndian → List ℕ → ℕ → Outcome HeaderCut
-header_cut order s at = do
-  l ← initial_length order s at (length s)
-  part ← cut l.length s l.next (length s)
-  answered (record {
-    offset = record { 0 = at };
-    length = l.length;
-    format = l.format;
-    body = record { at = part.at; end = part.end };
-  })
-
--- the seven numbers of 4 bytes
-unfoldable pub counts : RunTimeEndian → List ℕ → ℕ → ℕ → Outcome Counts
-counts order s at end = do
-  units ← read_number 4 order s at end
-  localTypeUnits ← read_number 4 order s units.next end
-  foreignTypeUnits ← read_number 4 order s localTypeUnits.next end
-  buckets ← read_number 4 order s foreignTypeUnits.next end
-  names ← read_number 4 order s buckets.next end
-  abbreviations ← read_number 4 order s names.next end
-  augmentationSize ← read_number 4 order s abbreviations.next end
-  answered (record {
-    compile_unit_count = units.value;
-    local_type_unit_count = localTypeUnits.value;
-    foreign_type_unit_count = foreignTypeUnits.value;
-    bucket_count = buckets.value;
-    name_count = names.value;
-    abbrev_table_size = abbreviations.value;
-    augmentation_string_size = augmentationSize.value;
-    next = augmentationSize.next;
-  })
+use Rattle.reader.specs.Parts.{Section}
 
 -- how many bytes are skipped behind an augmentation, by the remainder of its size by 4 (document 02, No. 4): 0 skips 0, 1 skips 3, 2 skips 2,
 -- 3 skips 1
@@ -68,31 +36,66 @@ augmentation size s at end = cond (eqb size 0) (answered (record { value = None;
   next ← skipped (padding size) s string.end end
   answered (record { value = Some (record { place = string.at; len = size }); next = next }))
 
--- the fields inside the part
-unfoldable pub header_body : RunTimeEndian → List ℕ → HeaderCut → Outcome NameIndexHeader
-header_body order s c = do
-  version ← read_number 2 order s c.body.at c.body.end
-  require (eqb version.value 5) (UnknownVersion version.value)
-  padded ← skipped 2 s version.next c.body.end
-  n ← counts order s padded c.body.end
-  a ← augmentation n.augmentation_string_size s n.next c.body.end
-  answered (record {
-    offset = c.offset;
-    length = c.length;
-    format = c.format;
-    version = version.value;
-    compile_unit_count = n.compile_unit_count;
-    local_type_unit_count = n.local_type_unit_count;
-    foreign_type_unit_count = n.foreign_type_unit_count;
-    bucket_count = n.bucket_count;
-    name_count = n.name_count;
-    abbrev_table_size = n.abbrev_table_size;
-    augmentation_string = a.value;
-    content = record { at = a.next; end = c.body.end };
-  })
+-- a section, in its byte order
+module _ (order : RunTimeEndian) (s : Section) where
+  -- the part of the index whose header begins at `at`: as many bytes as its length says, past the length
+  unfoldable pub header_cut : ℕ → Outcome HeaderCut
+  header_cut at = do
+    l ← initial_length order s at (length s)
+    part ← cut l.length s l.next (length s)
+    answered (record {
+      offset = record { 0 = at };
+      length = l.length;
+      format = l.format;
+      body = record { at = part.at; end = part.end };
+    })
 
--- the header that begins at `at`
-unfoldable pub header : RunTimeEndian → List ℕ → ℕ → Outcome NameIndexHeader
-header order s at = do
-  c ← header_cut order s at
-  header_body order s c
+  -- the seven numbers of 4 bytes
+  unfoldable pub counts : ℕ → ℕ → Outcome Counts
+  counts at end = do
+    units ← read_number 4 order s at end
+    localTypeUnits ← read_number 4 order s units.next end
+    foreignTypeUnits ← read_number 4 order s localTypeUnits.next end
+    buckets ← read_number 4 order s foreignTypeUnits.next end
+    names ← read_number 4 order s buckets.next end
+    abbreviations ← read_number 4 order s names.next end
+    augmentationSize ← read_number 4 order s abbreviations.next end
+    answered (record {
+      compile_unit_count = units.value;
+      local_type_unit_count = localTypeUnits.value;
+      foreign_type_unit_count = foreignTypeUnits.value;
+      bucket_count = buckets.value;
+      name_count = names.value;
+      abbrev_table_size = abbreviations.value;
+      augmentation_string_size = augmentationSize.value;
+      next = augmentationSize.next;
+    })
+
+  -- the fields inside the part
+  unfoldable pub header_body : HeaderCut → Outcome NameIndexHeader
+  header_body c = do
+    version ← read_number 2 order s c.body.at c.body.end
+    require (eqb version.value 5) (UnknownVersion version.value)
+    padded ← skipped 2 s version.next c.body.end
+    n ← counts padded c.body.end
+    a ← augmentation n.augmentation_string_size s n.next c.body.end
+    answered (record {
+      offset = c.offset;
+      length = c.length;
+      format = c.format;
+      version = version.value;
+      compile_unit_count = n.compile_unit_count;
+      local_type_unit_count = n.local_type_unit_count;
+      foreign_type_unit_count = n.foreign_type_unit_count;
+      bucket_count = n.bucket_count;
+      name_count = n.name_count;
+      abbrev_table_size = n.abbrev_table_size;
+      augmentation_string = a.value;
+      content = record { at = a.next; end = c.body.end };
+    })
+
+  -- the header that begins at `at`
+  unfoldable pub header : ℕ → Outcome NameIndexHeader
+  header at = do
+    c ← header_cut at
+    header_body c

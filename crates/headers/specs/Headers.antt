@@ -9,6 +9,7 @@ use Rattle.reader.specs.declared.endianity.RunTimeEndian.{RunTimeEndian}
 use Rattle.headers.specs.declared.header.NameIndexHeader.{NameIndexHeader}
 use Rattle.headers.specs.declared.headers.NameIndexHeaderIter.{NameIndexHeaderIter}
 use Rattle.headers.specs.Header.{header}
+use Rattle.reader.specs.Parts.{Section}
 
 -- the cursor before the first header
 unfoldable pub first_header : NameIndexHeaderIter
@@ -19,19 +20,21 @@ unfoldable pub after_header : List ℕ → Outcome NameIndexHeader → Step Name
 after_header s (answered h) = record { answer = answered (Some h); cursor = record { at = h.content.end } }
 after_header s (refused n v) = record { answer = refused n v; cursor = record { at = length s } }
 
--- the step: at the section's end none, else the header there
-unfoldable pub header_step : RunTimeEndian → List ℕ → NameIndexHeaderIter → Step NameIndexHeader NameIndexHeaderIter
-header_step order s c = keeping c (do
-  fail_if (ltb longest (length s)) SectionTooLong
-  fail_if (ltb (length s) c.at) DoesNotFit
-  answered (cond (eqb c.at (length s)) (record { answer = answered None; cursor = c }) (after_header s (header order s c.at))))
+-- a section, in its byte order
+module _ (order : RunTimeEndian) (s : Section) where
+  -- the step: at the section's end none, else the header there
+  unfoldable pub header_step : NameIndexHeaderIter → Step NameIndexHeader NameIndexHeaderIter
+  header_step c = keeping c (do
+    fail_if (ltb longest (length s)) SectionTooLong
+    fail_if (ltb (length s) c.at) DoesNotFit
+    answered (cond (eqb c.at (length s)) (record { answer = answered None; cursor = c }) (after_header s (header order s c.at))))
 
--- the header at a place, none at the section's end
-unfoldable pub header_at : RunTimeEndian → List ℕ → ℕ → Outcome (Option NameIndexHeader)
-header_at order s at = cond (leb (length s) at) (answered None) (do
-  h ← header order s at
-  answered (Some h))
+  -- the header at a place, none at the section's end
+  unfoldable pub header_at : ℕ → Outcome (Option NameIndexHeader)
+  header_at at = cond (leb (length s) at) (answered None) (do
+    h ← header order s at
+    answered (Some h))
 
--- the headers from a place on, each where the index before it ends, up to the section's end or the first that is refused
-unfoldable pub headers_from : RunTimeEndian → List ℕ → ℕ → Listing NameIndexHeader
-headers_from order s at = listing (header_at order s) (λ h. h.content.end) (length s - at) at
+  -- the headers from a place on, each where the index before it ends, up to the section's end or the first that is refused
+  unfoldable pub headers_from : ℕ → Listing NameIndexHeader
+  headers_from at = listing header_at (λ h. h.content.end) (length s - at) at

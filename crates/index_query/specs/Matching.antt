@@ -7,6 +7,7 @@ use Rattle.reader.specs.declared.endianity.RunTimeEndian.{RunTimeEndian}
 use Rattle.index.specs.declared.layout.NameIndex.{NameIndex}
 use Rattle.strings.specs.declared.Str.{Str}
 use Rattle.names.specs.Names.{name_string}
+use Rattle.reader.specs.Parts.{Section}
 
 -- whether two lists of bytes are the same
 unfoldable pub same_bytes : List ℕ → List ℕ → Bool
@@ -19,13 +20,13 @@ same_bytes (a ∷ rest) (b ∷ bs) = cond (eqb a b) (same_bytes rest bs) false
 unfoldable pub text_is : List ℕ → List ℕ → Str → Bool
 text_is strs text t = same_bytes (take t.len (drop t.start strs)) text
 
--- whether the string of a name is the one that is asked for; a string that cannot be read is refused
-unfoldable pub name_matches : RunTimeEndian → List ℕ → List ℕ → NameIndex → List ℕ → ℕ → Outcome Bool
-name_matches order s strs i text name = do
-  t ← name_string order s strs i (record { 0 = name })
-  answered (text_is strs text t)
-
 -- the names for which a test holds, in order; the first test that is refused breaks the list off
 unfoldable pub matching : (ℕ → Outcome Bool) → List ℕ → Listing ℕ
 matching test [] = ended
 matching test (n ∷ ns) = or_broken (test n) λ holds. cond holds (item n (matching test ns)) (matching test ns)
+
+-- whether the string of a name is the one that is asked for; a string that cannot be read is refused
+unfoldable pub name_matches : RunTimeEndian → Section → List ℕ → NameIndex → List ℕ → ℕ → Outcome Bool
+name_matches order s strs i text name = do
+  t ← name_string order s strs i (record { 0 = name })
+  answered (text_is strs text t)

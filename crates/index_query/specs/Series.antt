@@ -9,11 +9,14 @@ use Rattle.entries.specs.Entries.{Entry}
 use Rattle.entries.specs.Series.{series}
 use Rattle.records.specs.declared.record.Record.{Record}
 use Rattle.records.specs.Records.{entry_record}
+use Rattle.reader.specs.Parts.{Section}
 
--- the record of an entry in the series of a name
-unfoldable pub record_of_entry : RunTimeEndian → List ℕ → ℕ → NameIndex → ℕ → Entry → Outcome Record
-record_of_entry order s offset i name e = entry_record order s i (record { index = offset; name = name; entry = e.offset }) e.tag (facts e.attributes)
+-- a section, in its byte order
+module _ (order : RunTimeEndian) (s : Section) where
+  -- the record of an entry in the series of a name
+  unfoldable pub record_of_entry : ℕ → NameIndex → ℕ → Entry → Outcome Record
+  record_of_entry offset i name e = entry_record order s i (record { index = offset; name = name; entry = e.offset }) e.tag (facts e.attributes)
 
--- the records of the series of a name: each entry is read whole, then its unit, then its DIE offset
-unfoldable pub series_records : RunTimeEndian → List ℕ → ℕ → NameIndex → ℕ → Listing Record
-series_records order s offset i name = shown_by (record_of_entry order s offset i name) (series order s i (record { 0 = name }))
+  -- the records of the series of a name: each entry is read whole, then its unit, then its DIE offset
+  unfoldable pub series_records : ℕ → NameIndex → ℕ → Listing Record
+  series_records offset i name = shown_by (record_of_entry offset i name) (series order s i (record { 0 = name }))

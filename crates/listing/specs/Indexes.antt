@@ -8,6 +8,7 @@ use Rattle.index.specs.Open.{name_index}
 use Rattle.tables.specs.declared.TableCheck.{TableCheck}
 use Rattle.tables.specs.Check.{table_check}
 use Rattle.listing.specs.declared.index_line.Opened.{Opened}
+use Rattle.reader.specs.Parts.{Section}
 
 -- how many names are missed, by what the table check says; without a hash table there is no such number. The name and the hash of an incomplete
 -- answer are not printed (document 02, No. 2).
@@ -16,17 +17,19 @@ missed_by TableCheck.NoTable = None
 missed_by TableCheck.Complete = Some 0
 missed_by (TableCheck.Incomplete lost) = Some lost.missed
 
-unfoldable pub missed_in : RunTimeEndian → List ℕ → NameIndex → Outcome (Option ℕ)
-missed_in order s i = do
-  checked ← table_check order s i
-  answered (missed_by checked)
+-- a section, in its byte order
+module _ (order : RunTimeEndian) (s : Section) where
+  unfoldable pub missed_in : NameIndex → Outcome (Option ℕ)
+  missed_in i = do
+    checked ← table_check order s i
+    answered (missed_by checked)
 
--- an index opened from its header, and its line: refused by `NameIndex::new` or by the table check
-unfoldable pub opened_index : RunTimeEndian → List ℕ → NameIndexHeader → Outcome Opened
-opened_index order s h = do
-  i ← name_index s h
-  missed ← missed_in order s i
-  answered (record {
-    index = i;
-    line = record { place = h.offset; name_count = i.name_count; bucket_count = i.bucket_count; missed = missed };
-  })
+  -- an index opened from its header, and its line: refused by `NameIndex::new` or by the table check
+  unfoldable pub opened_index : NameIndexHeader → Outcome Opened
+  opened_index h = do
+    i ← name_index s h
+    missed ← missed_in i
+    answered (record {
+      index = i;
+      line = record { place = h.offset; name_count = i.name_count; bucket_count = i.bucket_count; missed = missed };
+    })

@@ -16,23 +16,7 @@ use Rattle.listing.specs.declared.lines.Line.{Line}
 use Rattle.listing.specs.declared.lines.ListingIter.{ListingIter}
 use Rattle.listing.specs.Names.{name_line}
 use Rattle.listing.specs.Indexes.{opened_index}
-
--- the lines of these names of an index, and what comes after them; a refusal stands in the place of its line, and ends the listing
-unfoldable pub name_lines : RunTimeEndian → List ℕ → NameIndex → List ℕ → Listing Line → Listing Line
-name_lines order s i [] after = after
-name_lines order s i (n ∷ ns) after = or_broken (name_line order s i (record { 0 = n })) λ l. item (Line.Name l) (name_lines order s i ns after)
-
--- the lines of these headers, where that many indexes were listed before them: for each its own line and those of its names in order, and
--- after the last how many there were
-unfoldable pub header_lines : RunTimeEndian → List ℕ → ℕ → Listing NameIndexHeader → Listing Line
-header_lines order s listed ended = item (Line.Indexes listed) ended
-header_lines order s listed (broken n v) = broken n v
-header_lines order s listed (item h rest) =
-    or_broken (opened_index order s h) λ o. item (Line.Index o.line) (name_lines order s o.index (names_from o.index 0) (header_lines order s (listed + 1) rest))
-
--- the lines of a section
-unfoldable pub section_lines : RunTimeEndian → List ℕ → Listing Line
-section_lines order s = or_broken (fail_if (ltb longest (length s)) SectionTooLong) λ u. header_lines order s 0 (headers_from order s 0)
+use Rattle.reader.specs.Parts.{Section}
 
 -- the cursor before the first line: no index is open
 unfoldable pub first_line : ListingIter
@@ -53,19 +37,38 @@ abbrev pub line_or : {A : Type 0} → ListingIter → Outcome A → (A → Step 
 line_or c (answered a) more = more a
 line_or c (refused n v) more = record { answer = refused n v; cursor = ended_at c }
 
--- the line of the header at the cursor's place, or after the last the number of indexes
-abbrev pub header_line : RunTimeEndian → List ℕ → ListingIter → Option NameIndexHeader → Step Line ListingIter
-header_line order s c None = record { answer = answered (Some (Line.Indexes c.listed)); cursor = ended_at c }
-header_line order s c (Some h) = line_or c (opened_index order s h) λ o. record { answer = answered (Some (Line.Index o.line)); cursor = past_index c h o.index }
+-- a section, in its byte order
+module _ (order : RunTimeEndian) (s : Section) where
+  -- the lines of these names of an index, and what comes after them; a refusal stands in the place of its line, and ends the listing
+  unfoldable pub name_lines : NameIndex → List ℕ → Listing Line → Listing Line
+  name_lines i [] after = after
+  name_lines i (n ∷ ns) after = or_broken (name_line order s i (record { 0 = n })) λ l. item (Line.Name l) (name_lines i ns after)
 
--- the step to the next index: a cursor that has listed more indexes than there are bytes before its place does not fit
-unfoldable pub head_step : RunTimeEndian → List ℕ → ListingIter → Step Line ListingIter
-head_step order s c = line_or c (fail_if (ltb c.at c.listed) DoesNotFit) λ u. line_or c (header_step order s (record { at = c.at })).answer (header_line order s c)
+  -- the lines of these headers, where that many indexes were listed before them: for each its own line and those of its names in order, and
+  -- after the last how many there were
+  unfoldable pub header_lines : ℕ → Listing NameIndexHeader → Listing Line
+  header_lines listed ended = item (Line.Indexes listed) ended
+  header_lines listed (broken n v) = broken n v
+  header_lines listed (item h rest) =
+      or_broken (opened_index order s h) λ o. item (Line.Index o.line) (name_lines o.index (names_from o.index 0) (header_lines (listed + 1) rest))
 
--- the step: the names of the open index, then the next index
-unfoldable pub line_step : RunTimeEndian → List ℕ → ListingIter → Step Line ListingIter
-line_step order s c = cond c.done
-    (record { answer = answered None; cursor = c })
-    (cond (leb c.index.name_count c.name.0)
-    (head_step order s c)
-    (line_or c (name_line order s c.index c.name) λ l. record { answer = answered (Some (Line.Name l)); cursor = past_name c }))
+  -- the lines of a section
+  unfoldable pub section_lines : Listing Line
+  section_lines = or_broken (fail_if (ltb longest (length s)) SectionTooLong) λ u. header_lines 0 (headers_from order s 0)
+
+  -- the line of the header at the cursor's place, or after the last the number of indexes
+  abbrev pub header_line : ListingIter → Option NameIndexHeader → Step Line ListingIter
+  header_line c None = record { answer = answered (Some (Line.Indexes c.listed)); cursor = ended_at c }
+  header_line c (Some h) = line_or c (opened_index order s h) λ o. record { answer = answered (Some (Line.Index o.line)); cursor = past_index c h o.index }
+
+  -- the step to the next index: a cursor that has listed more indexes than there are bytes before its place does not fit
+  unfoldable pub head_step : ListingIter → Step Line ListingIter
+  head_step c = line_or c (fail_if (ltb c.at c.listed) DoesNotFit) λ u. line_or c (header_step order s (record { at = c.at })).answer (header_line c)
+
+  -- the step: the names of the open index, then the next index
+  unfoldable pub line_step : ListingIter → Step Line ListingIter
+  line_step c = cond c.done
+      (record { answer = answered None; cursor = c })
+      (cond (leb c.index.name_count c.name.0)
+      (head_step c)
+      (line_or c (name_line order s c.index c.name) λ l. record { answer = answered (Some (Line.Name l)); cursor = past_name c }))

@@ -15,6 +15,7 @@ use Rattle.index.specs.declared.layout.NameIndex.{NameIndex}
 use Rattle.index.specs.Layout.{fitted}
 use Rattle.names.specs.declared.table.NameTableIter.{NameTableIter}
 use Rattle.names.specs.Units.{nth_word}
+use Rattle.reader.specs.Parts.{Section}
 
 -- the cursor before a name, and the one before the first
 abbrev pub before : ℕ → NameTableIter
@@ -35,21 +36,23 @@ name_step s i c = keeping c (do
   fitted s i
   answered (step_from i c.name_table_index.0))
 
--- the string offset of a name
-unfoldable pub name_string_offset : RunTimeEndian → List ℕ → NameIndex → NameTableIndex → Outcome DebugStrOffset
-name_string_offset order s i name = do
-  p ← fitted s i
-  offset ← nth_word i.format order s p.name_table_data p.entry_offset_data name.0
-  answered (record { 0 = offset.value })
+-- a section, in its byte order
+module _ (order : RunTimeEndian) (s : Section) where
+  -- the string offset of a name
+  unfoldable pub name_string_offset : NameIndex → NameTableIndex → Outcome DebugStrOffset
+  name_string_offset i name = do
+    p ← fitted s i
+    offset ← nth_word i.format order s p.name_table_data p.entry_offset_data name.0
+    answered (record { 0 = offset.value })
 
--- the string of a name: 13 for .debug_names, 13 for .debug_str, 14, the string offset, the string
-unfoldable pub name_string : RunTimeEndian → List ℕ → List ℕ → NameIndex → NameTableIndex → Outcome Str
-name_string order s strs i name = do
-  fail_if (ltb longest (length s)) SectionTooLong
-  fail_if (ltb longest (length strs)) SectionTooLong
-  offset ← name_string_offset order s i name
-  get_str strs offset.0
+  -- the string of a name: 13 for .debug_names, 13 for .debug_str, 14, the string offset, the string
+  unfoldable pub name_string : List ℕ → NameIndex → NameTableIndex → Outcome Str
+  name_string strs i name = do
+    fail_if (ltb longest (length s)) SectionTooLong
+    fail_if (ltb longest (length strs)) SectionTooLong
+    offset ← name_string_offset i name
+    get_str strs offset.0
 
--- its bytes in .debug_str; none where it is refused
-unfoldable pub name_string_bytes : RunTimeEndian → List ℕ → List ℕ → NameIndex → NameTableIndex → List ℕ
-name_string_bytes order s strs i name = text_bytes strs (name_string order s strs i name)
+  -- its bytes in .debug_str; none where it is refused
+  unfoldable pub name_string_bytes : List ℕ → NameIndex → NameTableIndex → List ℕ
+  name_string_bytes strs i name = text_bytes strs (name_string strs i name)

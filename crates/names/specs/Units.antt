@@ -11,53 +11,56 @@ use Rattle.reader.specs.declared.common.DebugTypeSignature.{DebugTypeSignature}
 use Rattle.index.specs.declared.layout.NameIndex.{NameIndex}
 use Rattle.index.specs.Layout.{word_bytes, fitted}
 use Rattle.names.specs.declared.units.NameTypeUnit.{NameTypeUnit}
+use Rattle.reader.specs.Parts.{Section}
 
 -- the word of number k in a list of words from `at` up to `end`: skip, then read
-unfoldable pub nth_word : Format → RunTimeEndian → List ℕ → ℕ → ℕ → ℕ → Outcome (Read ℕ)
+unfoldable pub nth_word : Format → RunTimeEndian → Section → ℕ → ℕ → ℕ → Outcome (Read ℕ)
 nth_word format order s at end k = do
   place ← skipped (word_bytes format k) s at end
   read_number (word_size format) order s place end
 
 -- the same as an offset of .debug_info
-unfoldable pub unit_in : Format → RunTimeEndian → List ℕ → ℕ → ℕ → ℕ → Outcome DebugInfoOffset
+unfoldable pub unit_in : Format → RunTimeEndian → Section → ℕ → ℕ → ℕ → Outcome DebugInfoOffset
 unit_in format order s at end k = do
   offset ← nth_word format order s at end k
   answered (record { 0 = offset.value })
 
-unfoldable pub nth_compile_unit : RunTimeEndian → List ℕ → NameIndex → ℕ → Outcome DebugInfoOffset
-nth_compile_unit order s i k = do
-  p ← fitted s i
-  unit_in i.format order s p.compile_unit_list p.local_type_unit_list k
+-- a section, in its byte order
+module _ (order : RunTimeEndian) (s : Section) where
+  unfoldable pub nth_compile_unit : NameIndex → ℕ → Outcome DebugInfoOffset
+  nth_compile_unit i k = do
+    p ← fitted s i
+    unit_in i.format order s p.compile_unit_list p.local_type_unit_list k
 
-unfoldable pub local_type_unit : RunTimeEndian → List ℕ → NameIndex → ℕ → Outcome DebugInfoOffset
-local_type_unit order s i k = do
-  p ← fitted s i
-  unit_in i.format order s p.local_type_unit_list p.foreign_type_unit_list k
+  unfoldable pub local_type_unit : NameIndex → ℕ → Outcome DebugInfoOffset
+  local_type_unit i k = do
+    p ← fitted s i
+    unit_in i.format order s p.local_type_unit_list p.foreign_type_unit_list k
 
--- signatures have 8 bytes in both formats
-unfoldable pub foreign_type_unit : RunTimeEndian → List ℕ → NameIndex → ℕ → Outcome DebugTypeSignature
-foreign_type_unit order s i k = do
-  p ← fitted s i
-  place ← skipped (8 * k) s p.foreign_type_unit_list p.bucket_data
-  signature ← read_number 8 order s place p.bucket_data
-  answered (record { 0 = signature.value })
+  -- signatures have 8 bytes in both formats
+  unfoldable pub foreign_type_unit : NameIndex → ℕ → Outcome DebugTypeSignature
+  foreign_type_unit i k = do
+    p ← fitted s i
+    place ← skipped (8 * k) s p.foreign_type_unit_list p.bucket_data
+    signature ← read_number 8 order s place p.bucket_data
+    answered (record { 0 = signature.value })
 
--- local numbers first, then foreign ones
-unfoldable pub nth_type_unit : RunTimeEndian → List ℕ → NameIndex → ℕ → Outcome NameTypeUnit
-nth_type_unit order s i k = cond (ltb k i.local_type_unit_count)
-    (do
-      unit ← local_type_unit order s i k
-      answered (NameTypeUnit.Local unit))
-    (do
-      signature ← foreign_type_unit order s i (k - i.local_type_unit_count)
-      answered (NameTypeUnit.Foreign signature))
+  -- local numbers first, then foreign ones
+  unfoldable pub nth_type_unit : NameIndex → ℕ → Outcome NameTypeUnit
+  nth_type_unit i k = cond (ltb k i.local_type_unit_count)
+      (do
+        unit ← local_type_unit i k
+        answered (NameTypeUnit.Local unit))
+      (do
+        signature ← foreign_type_unit i (k - i.local_type_unit_count)
+        answered (NameTypeUnit.Foreign signature))
 
--- the only unit if there is one, else none
-unfoldable pub default_compile_unit : RunTimeEndian → List ℕ → NameIndex → Outcome (Option DebugInfoOffset)
-default_compile_unit order s i = cond (eqb i.compile_unit_count 1)
-    (do
-      unit ← nth_compile_unit order s i 0
-      answered (Some unit))
-    (do
-      fitted s i
-      answered None)
+  -- the only unit if there is one, else none
+  unfoldable pub default_compile_unit : NameIndex → Outcome (Option DebugInfoOffset)
+  default_compile_unit i = cond (eqb i.compile_unit_count 1)
+      (do
+        unit ← nth_compile_unit i 0
+        answered (Some unit))
+      (do
+        fitted s i
+        answered None)

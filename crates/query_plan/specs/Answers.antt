@@ -6,8 +6,9 @@ use Rattle.reader.specs.declared.endianity.RunTimeEndian.{RunTimeEndian}
 use Rattle.records.specs.declared.record.Record.{Record}
 use Rattle.query_plan.specs.declared.Plan.{Plan}
 use Rattle.query_plan.specs.Plans.{Queried, writing_left}
+use Rattle.reader.specs.Parts.{Section}
 
-abbrev pub plan_outcome : RunTimeEndian → List ℕ → List ℕ → ℕ → List ℕ → Plan → Queried
+abbrev pub plan_outcome : RunTimeEndian → Section → List ℕ → ℕ → List ℕ → Plan → Queried
 plan_outcome order s strs hash text p = record { answer = outcome p.answer; records = writing_left order s strs hash text p.writing }
 
 abbrev pub write_left : Option Record → List Record → List Record

@@ -9,6 +9,7 @@ use Rattle.records.specs.declared.record.Record.{Record}
 use Rattle.section_records.specs.Records.{section_records, query_left, first_record}
 use Rattle.query_plan.specs.declared.Writing.{Writing}
 use Rattle.query_plan.specs.declared.Plan.{Plan}
+use Rattle.reader.specs.Parts.{Section}
 
 -- what a query answers, its total or the refusal, and records: here those to write; of `query` those that it was lent, as they are at exit
 pub record Queried : Type 0 where
@@ -25,11 +26,11 @@ unfoldable pub queried : Listing Record → Queried
 queried l = record { answer = counted l; records = unless_refused (counted l) (items_of l) }
 
 -- What single functions of the code leave: the plan of a query,
-unfoldable pub planned : RunTimeEndian → List ℕ → List ℕ → ℕ → List ℕ → Queried
+unfoldable pub planned : RunTimeEndian → Section → List ℕ → ℕ → List ℕ → Queried
 planned order s strs hash text = queried (section_records order s strs hash text)
 
 -- what there is left to write, the first record before the others if it is still to be written,
-unfoldable pub writing_left : RunTimeEndian → List ℕ → List ℕ → ℕ → List ℕ → Writing → List Record
+unfoldable pub writing_left : RunTimeEndian → Section → List ℕ → ℕ → List ℕ → Writing → List Record
 writing_left order s strs hash text w =
     take w.left (option_to_list w.first ++ items_of (query_left order s strs hash text w.cursor))
 

@@ -7,6 +7,10 @@ use Rattle.reader.specs.declared.reader.Part.{Part}
 use Rattle.reader.specs.Errors.{refusal}
 use Rattle.reader.specs.declared.error.Error.TheVariants.{UnexpectedEof}
 
+-- the bytes of a section
+abbrev pub Section : Type 0
+Section = List ℕ
+
 -- where the part ends: at `end`, or with the section
 abbrev pub part_end : List ℕ → ℕ → ℕ
 part_end s end = min end (length s)

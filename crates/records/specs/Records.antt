@@ -9,6 +9,7 @@ use Rattle.records.specs.declared.unit.ShownUnit.{ShownUnit}
 use Rattle.records.specs.declared.record.Record.{Record}
 use Rattle.records.specs.Units.{entry_unit}
 use Rattle.reader.specs.declared.common.UnitOffset.{UnitOffset}
+use Rattle.reader.specs.Parts.{Section}
 
 -- where an entry stands: the place of its index in the section, the number of the name, and its offset in the pool
 pub record Where : Type 0 where
@@ -21,13 +22,6 @@ pub record Shown : Type 0 where
   pub tag : ℕ
   pub unit : ShownUnit
   pub die : Option UnitOffset
-
--- its unit is found first, then its DIE offset; `f` has the first attribute of each name
-unfoldable pub shown : RunTimeEndian → List ℕ → NameIndex → ℕ → Facts → Outcome Shown
-shown order s i tag f = do
-  unit ← entry_unit order s i f
-  die ← die_offset_of f.die_offset
-  answered (record { tag = tag; unit = unit; die = die })
 
 -- an absent DIE offset is 0, with the flag 0
 abbrev pub with_die : Where → ℕ → ShownUnit → Option UnitOffset → Record
@@ -56,8 +50,17 @@ with_die w tag unit None = record {
 abbrev pub record_of : Where → Shown → Record
 record_of w what = with_die w what.tag what.unit what.die
 
--- the record of an entry
-unfoldable pub entry_record : RunTimeEndian → List ℕ → NameIndex → Where → ℕ → Facts → Outcome Record
-entry_record order s i w tag f = do
-  what ← shown order s i tag f
-  answered (record_of w what)
+-- a section, in its byte order
+module _ (order : RunTimeEndian) (s : Section) where
+  -- its unit is found first, then its DIE offset; `f` has the first attribute of each name
+  unfoldable pub shown : NameIndex → ℕ → Facts → Outcome Shown
+  shown i tag f = do
+    unit ← entry_unit order s i f
+    die ← die_offset_of f.die_offset
+    answered (record { tag = tag; unit = unit; die = die })
+
+  -- the record of an entry
+  unfoldable pub entry_record : NameIndex → Where → ℕ → Facts → Outcome Record
+  entry_record i w tag f = do
+    what ← shown i tag f
+    answered (record_of w what)

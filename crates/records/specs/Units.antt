@@ -12,6 +12,7 @@ use Rattle.attributes.specs.declared.facts.Facts.{Facts}
 use Rattle.attributes.specs.Meaning.{compile_unit_of, type_unit_of}
 use Rattle.records.specs.declared.unit.ShownUnit.{ShownUnit}
 use Rattle.reader.specs.declared.common.DebugInfoOffset.{DebugInfoOffset}
+use Rattle.reader.specs.Parts.{Section}
 
 -- a compile unit is kind 1, a local type unit 2, a foreign one, by its signature, 3; no unit is kind 0 with the value 0
 abbrev pub unit_of : ℕ → ℕ → ShownUnit
@@ -33,22 +34,24 @@ abbrev pub as_default_unit : Option DebugInfoOffset → ShownUnit
 as_default_unit (Some u) = unit_of 1 u.0
 as_default_unit None = unit_of 0 0
 
--- the unit that the type_unit attribute names, and the one that the compile_unit attribute names; none where the entry has no such attribute
-unfoldable pub type_shown : RunTimeEndian → List ℕ → NameIndex → Option FirstAttribute → Outcome (Option ShownUnit)
-type_shown order s i a = do
-  u ← type_unit_of order s i a
-  answered (as_type_unit u)
+-- a section, in its byte order
+module _ (order : RunTimeEndian) (s : Section) where
+  -- the unit that the type_unit attribute names, and the one that the compile_unit attribute names; none where the entry has no such attribute
+  unfoldable pub type_shown : NameIndex → Option FirstAttribute → Outcome (Option ShownUnit)
+  type_shown i a = do
+    u ← type_unit_of order s i a
+    answered (as_type_unit u)
 
-unfoldable pub compile_shown : RunTimeEndian → List ℕ → NameIndex → Option FirstAttribute → Outcome (Option ShownUnit)
-compile_shown order s i a = do
-  u ← compile_unit_of order s i a
-  answered (as_compile_unit u)
+  unfoldable pub compile_shown : NameIndex → Option FirstAttribute → Outcome (Option ShownUnit)
+  compile_shown i a = do
+    u ← compile_unit_of order s i a
+    answered (as_compile_unit u)
 
--- the default compile unit of the index, else no unit
-unfoldable pub default_shown : RunTimeEndian → List ℕ → NameIndex → Outcome ShownUnit
-default_shown order s i = do
-  u ← default_compile_unit order s i
-  answered (as_default_unit u)
+  -- the default compile unit of the index, else no unit
+  unfoldable pub default_shown : NameIndex → Outcome ShownUnit
+  default_shown i = do
+    u ← default_compile_unit order s i
+    answered (as_default_unit u)
 
 infixr 5 ◌orNext◌
 -- this unit, or this refusal; only where there is no such unit, what comes next
@@ -58,7 +61,7 @@ abbrev pub ◌orNext◌ : Outcome (Option ShownUnit) → Outcome ShownUnit → O
 ◌orNext◌ (refused n v) next = refused n v
 
 -- the unit: of the type_unit attribute, to whose unit the DIE belongs, else of the compile_unit attribute, else the default compile unit, else none
-unfoldable pub entry_unit : RunTimeEndian → List ℕ → NameIndex → Facts → Outcome ShownUnit
+unfoldable pub entry_unit : RunTimeEndian → Section → NameIndex → Facts → Outcome ShownUnit
 entry_unit order s i f =
     type_shown order s i f.type_unit
     orNext compile_shown order s i f.compile_unit

@@ -13,25 +13,26 @@ use Rattle.index.specs.Open.{name_index}
 use Rattle.records.specs.declared.record.Record.{Record}
 use Rattle.index_query.specs.Records.{index_records, index_left}
 use Rattle.section_records.specs.declared.QueryIter.{QueryIter}
+use Rattle.reader.specs.Parts.{Section}
 
 -- the records of these headers, in order: each index is opened and finished before the next
-unfoldable pub header_records : RunTimeEndian → List ℕ → List ℕ → ℕ → List ℕ → Listing NameIndexHeader → Listing Record
+unfoldable pub header_records : RunTimeEndian → Section → List ℕ → ℕ → List ℕ → Listing NameIndexHeader → Listing Record
 header_records order s strs hash text ended = ended
 header_records order s strs hash text (broken n v) = broken n v
 header_records order s strs hash text (item h rest) =
     followed_by (or_broken (name_index s h) (index_records order s strs hash text h.offset.0)) (header_records order s strs hash text rest)
 
 -- the records of the headers from a place on
-unfoldable pub headers_left : RunTimeEndian → List ℕ → List ℕ → ℕ → List ℕ → ℕ → Listing Record
+unfoldable pub headers_left : RunTimeEndian → Section → List ℕ → ℕ → List ℕ → ℕ → Listing Record
 headers_left order s strs hash text at = header_records order s strs hash text (headers_from order s at)
 
 -- the records of a section: 13 is tested first, for .debug_names and then for .debug_str
-unfoldable pub section_records : RunTimeEndian → List ℕ → List ℕ → ℕ → List ℕ → Listing Record
+unfoldable pub section_records : RunTimeEndian → Section → List ℕ → ℕ → List ℕ → Listing Record
 section_records order s strs hash text =
     or_broken (fail_if (ltb longest (length s)) SectionTooLong) λ u. or_broken (fail_if (ltb longest (length strs)) SectionTooLong) λ v. headers_left order s strs hash text 0
 
 -- What single functions of the code leave: the records that a cursor has left, those of its index and those of the headers after it.
-unfoldable pub query_left : RunTimeEndian → List ℕ → List ℕ → ℕ → List ℕ → QueryIter → Listing Record
+unfoldable pub query_left : RunTimeEndian → Section → List ℕ → ℕ → List ℕ → QueryIter → Listing Record
 query_left order s strs hash text c =
     followed_by (index_left order s strs hash text c.offset c.index c.records) (headers_left order s strs hash text c.at)
 

@@ -10,6 +10,7 @@ use Rattle.hashes.specs.Table.{stored_start, stored_hash, bucket_of, names_from,
 use Rattle.tables.specs.declared.TableCheck.{TableCheck}
 use Rattle.reader.specs.Errors.{fail_if}
 use Rattle.reader.specs.declared.error.Error.TheVariants.{UnexpectedEof}
+use Rattle.reader.specs.Parts.{Section}
 
 -- Whether a bucket's start is above N + 1, and whether some bucket has such a start. Document 01 refuses at the lowest of these; which one that is makes
 -- no difference, since the refusal is the same. A start of N + 1 is one past the last name, and no refusal in gimli.
@@ -19,24 +20,26 @@ start_above names start_of bucket = ltb (names + 1) (start_of bucket)
 unfoldable pub any_above : ℕ → (ℕ → ℕ) → ℕ → Bool
 any_above names start_of buckets = ltb 0 (length (filterb (start_above names start_of) (numbers_from 0 buckets)))
 
--- whether a name is not in the run of its own bucket
-unfoldable pub is_missed : RunTimeEndian → List ℕ → NameIndex → ℕ → Bool
-is_missed order s i name = not (memberb name (run order s i (bucket_of i (stored_hash order s (parts i) name))))
-
--- the missed names, in the order of their numbers
-unfoldable pub missed_names : RunTimeEndian → List ℕ → NameIndex → List ℕ
-missed_names order s i = filterb (is_missed order s i) (names_from i 0)
-
 -- complete where no name is missed; else how many are, the first of them, which has the smallest number, and the hash that is stored for it
 unfoldable pub verdict : (ℕ → ℕ) → List ℕ → TableCheck
 verdict hash_of [] = TableCheck.Complete
 verdict hash_of (name ∷ more) = TableCheck.Incomplete (record { missed = length (name ∷ more); name = record { 0 = name }; hash = hash_of name })
 
-unfoldable pub table_check : RunTimeEndian → List ℕ → NameIndex → Outcome TableCheck
-table_check order s i = do
-  p ← fitted s i
-  cond (eqb i.bucket_count 0)
-      (answered TableCheck.NoTable)
-      (do
-        fail_if (any_above i.name_count (stored_start order s p) i.bucket_count) (UnexpectedEof p.hash_table_data)
-        answered (verdict (stored_hash order s p) (missed_names order s i)))
+-- a section, in its byte order
+module _ (order : RunTimeEndian) (s : Section) where
+  -- whether a name is not in the run of its own bucket
+  unfoldable pub is_missed : NameIndex → ℕ → Bool
+  is_missed i name = not (memberb name (run order s i (bucket_of i (stored_hash order s (parts i) name))))
+
+  -- the missed names, in the order of their numbers
+  unfoldable pub missed_names : NameIndex → List ℕ
+  missed_names i = filterb (is_missed i) (names_from i 0)
+
+  unfoldable pub table_check : NameIndex → Outcome TableCheck
+  table_check i = do
+    p ← fitted s i
+    cond (eqb i.bucket_count 0)
+        (answered TableCheck.NoTable)
+        (do
+          fail_if (any_above i.name_count (stored_start order s p) i.bucket_count) (UnexpectedEof p.hash_table_data)
+          answered (verdict (stored_hash order s p) (missed_names i)))
