@@ -26,7 +26,8 @@ use Rattle.abbreviations.specs.declared.NameAbbreviation.{NameAbbreviation}
 use Rattle.abbreviations.specs.declared.ReadAttribute.{ReadAttribute}
 use Rattle.abbreviations.specs.declared.Head.{Head}
 use Rattle.abbreviations.specs.Sanity.{TablesUnfold, DeclarationsForward, DeclarationsRead, FoundInTable, TablesInPart}
-use Rattle.abbreviations.specs.Abbreviations.{short_pair, pair, Attributes, before, attributes_in, attributes, attributes_end, head, Declaration, with_attributes, declaration, table, ending, parsed, find, handed, handed_out, found, declared}
+use Rattle.abbreviations.specs.Abbreviations.{pair, Attributes, before, attributes_in, attributes, head, Declaration, with_attributes, declaration, table, ending, parsed, find, handed, handed_out, found}
+use Rattle.abbreviations.specs.Inner.{short_pair, attributes_end, declared}
 
 -- the test of a pair
 abbrev tested : ℕ → ℕ → Outcome (Unit {0})

@@ -8,7 +8,8 @@
 
 ghost use Rattle.std.specs.Prelude.{◌≡◌};
 ghost use Rattle.reader.specs.Answers.{outcome};
-ghost use Rattle.abbreviations.specs.Abbreviations.{short_pair, pair, attributes_end, head, declared, parsed, found};
+ghost use Rattle.abbreviations.specs.Abbreviations.{pair, head, parsed, found};
+ghost use Rattle.abbreviations.specs.Inner.{short_pair, attributes_end, declared};
 
 use reader::{Error, is_empty, read_u8};
 
@@ -40,7 +41,7 @@ pub struct NameAbbreviation {
 
 // Two bytes below 128, both 0 or neither of them: each is then a number by itself, and nearly all of a table is of such bytes. None stands for
 // all else.
-#[tactic(auto, unfolding(crate::specs::Abbreviations::short_pair))]
+#[tactic(auto, unfolding(crate::specs::Inner::short_pair))]
 #[inline(always)]
 fn short_pair(s: &[u8], at: usize, end: usize) -> Option<(u8, u8)>
     ensures { result ≡ short_pair s.now at end }

@@ -7,7 +7,8 @@ use Rattle.reader.specs.Lists.{memberb}
 use Rattle.reader.specs.declared.endianity.RunTimeEndian.{RunTimeEndian}
 use Rattle.abbreviations.specs.Abbreviations.{Attribute, Attributes, attributes}
 use Rattle.attributes.specs.declared.attribute.FirstAttribute.{FirstAttribute}
-use Rattle.attributes.specs.Attributes.{NameAttribute, Values, values, first, values_from}
+use Rattle.attributes.specs.Attributes.{NameAttribute, Values, values, first}
+use Rattle.attributes.specs.Inner.{values_from}
 
 -- where the pairs of a declaration can all be read, reading them as they are needed is reading the values of its attributes
 abbrev pub ValuesDeclared : Type 0

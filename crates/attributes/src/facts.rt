@@ -4,7 +4,7 @@
 // (s, at, end) stay parameters: with a struct of s and end, as was tried, contracts are no plainer (docs/DECISIONS.md).
 ghost use Rattle.std.specs.Prelude.{◌≡◌};
 ghost use Rattle.reader.specs.Answers.{outcome};
-ghost use Rattle.attributes.specs.Attributes.{with_fact, facts_read};
+ghost use Rattle.attributes.specs.Inner.{with_fact, facts_read};
 
 use crate::attribute::FirstAttribute;
 use abbreviations::read_attribute;
@@ -23,7 +23,7 @@ pub struct Facts {
 
 impl Facts {
     // Keeps one more attribute: it counts where it is the first of its name.
-    #[tactic(auto, unfolding(crate::specs::Attributes::with_fact))]
+    #[tactic(auto, unfolding(crate::specs::Inner::with_fact))]
     #[inline(always)]
     fn keep(&mut self, name: u16, a: FirstAttribute)
         ensures { self.new ≡ with_fact self.old name a }

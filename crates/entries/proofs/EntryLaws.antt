@@ -24,11 +24,13 @@ use Rattle.index.specs.declared.layout.Parts.{Parts}
 use Rattle.index.specs.Layout.{parts, fitted}
 use Rattle.index.proofs.LayoutLaws.{fitted-answered}
 use Rattle.attributes.specs.declared.facts.Facts.{Facts}
-use Rattle.attributes.specs.Attributes.{Values, values, facts, facts_read}
+use Rattle.attributes.specs.Attributes.{Values, values, facts}
+use Rattle.attributes.specs.Inner.{facts_read}
 use Rattle.attributes.proofs.AttributeLaws.{facts_declared, entry_values_onward}
 use Rattle.entries.specs.declared.entry.WholeEntry.{WholeEntry}
 use Rattle.entries.specs.Sanity.{EntriesForward, HandlesBelow}
-use Rattle.entries.specs.Entries.{Entry, or_refuse, entry, name_entry, handed, name_entry_handed, whole, whole_of, entry_read, whole_entry}
+use Rattle.entries.specs.Entries.{Entry, or_refuse, entry, name_entry, handed, name_entry_handed}
+use Rattle.entries.specs.Inner.{whole, whole_of, entry_read, whole_entry}
 use Rattle.abbreviations.specs.declared.NameAbbreviation.{NameAbbreviation}
 
 -- what the search for the code's declaration leads to, in the order of the code

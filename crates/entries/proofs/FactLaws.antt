@@ -8,7 +8,7 @@ use Rattle.reader.specs.declared.common.NameEntryOffset.{NameEntryOffset}
 use Rattle.index.specs.declared.layout.NameIndex.{NameIndex}
 use Rattle.attributes.specs.Attributes.{facts}
 use Rattle.attributes.specs.Meaning.{compile_unit_of, type_unit_of, die_offset_of, parent_of, type_hash_of}
-use Rattle.entries.specs.Entries.{whole_entry}
+use Rattle.entries.specs.Inner.{whole_entry}
 use Rattle.entries.specs.Facts.{entry_compile_unit, entry_type_unit, entry_die_offset, entry_parent, entry_type_hash}
 use Rattle.entries.proofs.EntryLaws.{fact_step}
 

@@ -31,7 +31,8 @@ use Rattle.entries.specs.declared.series.NameEntryIter.{NameEntryIter}
 use Rattle.entries.specs.Sanity.{pool_length, SeriesUnfold, SeriesShort, HandlesLead, HandlesTell}
 use Rattle.entries.specs.Demand3.{EntryLookups}
 use Rattle.entries.specs.declared.entry.EntryAt.{EntryAt}
-use Rattle.entries.specs.Entries.{Entry, entry, name_entry, handed, name_entry_handed, less_whole, told, whole_of, entry_read, whole_entry}
+use Rattle.entries.specs.Entries.{Entry, entry, name_entry, handed, name_entry_handed, less_whole}
+use Rattle.entries.specs.Inner.{told, whole_of, entry_read, whole_entry}
 use Rattle.entries.specs.Series.{series_start, series_entry, entries_from, series, cursor_at, name_entries, moved, step_showing, entry_step, whole_step}
 use Rattle.entries.proofs.EntryLaws.{entry-offset, entries_forward, pool_end}
 

@@ -70,29 +70,3 @@ module _ (order : RunTimeEndian) (s : Section) where
 -- the same of what a pass over it tells
 abbrev pub less_whole : EntryAt → NameEntry
 less_whole e = record { offset = e.offset; abbrev_code = e.entry.abbrev_code; tag = e.entry.tag }
-
--- What single functions of the code answer: of the attributes, the first of each name.
-abbrev pub whole : Entry → WholeEntry
-whole e = record { abbrev_code = e.code; tag = e.tag; facts = facts e.attributes; next = e.next }
-
--- the same with its handle
-abbrev pub told : Entry → EntryAt
-told e = record { offset = record { 0 = e.offset }; entry = whole e }
-
-abbrev pub whole_of : Option Entry → Option WholeEntry
-whole_of None = None
-whole_of (Some e) = Some (whole e)
-
--- a section, in its byte order
-module _ (order : RunTimeEndian) (s : Section) where
-  -- `read_entry`
-  unfoldable pub entry_read : Parts → ℕ → Outcome (Option WholeEntry)
-  entry_read p at = do
-    e ← entry order s p at
-    answered (whole_of e)
-
-  -- `whole_entry`
-  unfoldable pub whole_entry : NameIndex → NameEntryOffset → Outcome WholeEntry
-  whole_entry i offset = do
-    e ← name_entry order s i offset
-    answered (whole e)

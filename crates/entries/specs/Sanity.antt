@@ -13,7 +13,8 @@ use Rattle.index.specs.Layout.{parts}
 use Rattle.entries.specs.declared.entry.NameEntry.{NameEntry}
 use Rattle.entries.specs.declared.series.NameEntryIter.{NameEntryIter}
 use Rattle.entries.specs.declared.entry.EntryAt.{EntryAt}
-use Rattle.entries.specs.Entries.{Entry, entry, name_entry, name_entry_handed, whole_entry}
+use Rattle.entries.specs.Entries.{Entry, entry, name_entry, name_entry_handed}
+use Rattle.entries.specs.Inner.{whole_entry}
 use Rattle.entries.specs.Series.{series_entry, entries_from, series, entry_step, whole_step}
 
 -- the bytes of an index's pool

@@ -14,7 +14,8 @@ use Rattle.names.specs.Units.{nth_word}
 use Rattle.entries.specs.declared.entry.NameEntry.{NameEntry}
 use Rattle.entries.specs.declared.series.NameEntryIter.{NameEntryIter}
 use Rattle.entries.specs.declared.entry.EntryAt.{EntryAt}
-use Rattle.entries.specs.Entries.{Entry, entry, handed, told}
+use Rattle.entries.specs.Entries.{Entry, entry, handed}
+use Rattle.entries.specs.Inner.{told}
 use Rattle.reader.specs.Errors.{fail_if}
 use Rattle.reader.specs.declared.error.Error.TheVariants.{DoesNotFit}
 use Rattle.reader.specs.Parts.{Section}

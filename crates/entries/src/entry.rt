@@ -2,7 +2,8 @@
 // (order, section, index) stay parameters: with a struct that lends the section, contracts are no plainer (docs/DECISIONS.md).
 ghost use Rattle.std.specs.Prelude.{◌≡◌};
 ghost use Rattle.reader.specs.Answers.{outcome};
-ghost use Rattle.entries.specs.Entries.{less_whole, entry_read, whole_entry, name_entry_handed};
+ghost use Rattle.entries.specs.Entries.{less_whole, name_entry_handed};
+ghost use Rattle.entries.specs.Inner.{entry_read, whole_entry};
 
 use abbreviations::get;
 use attributes::{Facts, read_facts};

@@ -9,13 +9,14 @@ use Rattle.reader.specs.declared.common.NameEntryOffset.{NameEntryOffset}
 use Rattle.index.specs.declared.layout.NameIndex.{NameIndex}
 use Rattle.entries.specs.declared.entry.WholeEntry.{WholeEntry}
 use Rattle.entries.specs.declared.series.NameEntryIter.{NameEntryIter}
-use Rattle.entries.specs.Entries.{whole_entry}
+use Rattle.entries.specs.Inner.{whole_entry}
 use Rattle.entries.specs.declared.entry.EntryAt.{EntryAt}
 use Rattle.entries.specs.Series.{whole_step}
 use Rattle.entries.proofs.EntryLaws.{name_entry_step}
 use Rattle.entries.proofs.SeriesLaws.{less_of, entry_step_lem, handles_tell}
 use Rattle.entries.proofs.FactLaws.{compile_unit_step, type_unit_step, die_offset_step, parent_step, type_hash_step}
-use Rattle.entry_answers.specs.Entry.{facts_at, facts_of, entry_answer, entry_step_answer, whole_answer, whole_step_answer, entry_step_in, whole_step_in}
+use Rattle.entry_answers.specs.Entry.{facts_at, entry_answer, entry_step_answer, entry_step_in}
+use Rattle.entry_answers.specs.Inner.{facts_of, whole_answer, whole_step_answer, whole_step_in}
 
 -- the facts of an entry that was read whole are those by its handle
 facts-whole : (order : RunTimeEndian) (s : List ℕ) (i : NameIndex) (offset : NameEntryOffset) (w : WholeEntry)

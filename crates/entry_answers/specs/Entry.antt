@@ -103,26 +103,3 @@ entry_step_in facts next (refused n v) = refused_entry next n v
 
 unfoldable pub entry_step_answer : RunTimeEndian → Section → NameIndex → NameEntryIter → EntryAnswer
 entry_step_answer order s i c = entry_step_in (facts_at order s i) (entry_step order s i c).cursor.at (entry_step order s i c).answer
-
--- What single functions of the code answer: one pass over an entry keeps the first attribute of each name, and these say its facts.
-unfoldable pub facts_of : RunTimeEndian → Section → NameIndex → Facts → EntryFacts
-facts_of order s i f = record {
-  compile_unit = handed compile_unit_fact (compile_unit_of order s i f.compile_unit);
-  type_unit = handed type_unit_fact (type_unit_of order s i f.type_unit);
-  die_offset = handed die_offset_fact (die_offset_of f.die_offset);
-  parent = handed parent_fact (parent_of f.parent);
-  type_hash = handed type_hash_fact (type_hash_of f.type_hash);
-}
-
--- the entry with a handle, and a step, of an entry that was read whole
-unfoldable pub whole_answer : RunTimeEndian → Section → NameIndex → NameEntryOffset → Outcome WholeEntry → EntryAnswer
-whole_answer order s i offset (answered w) = shown_entry (facts_of order s i w.facts) 0 (less_whole (record { offset = offset; entry = w }))
-whole_answer order s i offset (refused n v) = refused_entry 0 n v
-
-abbrev pub whole_step_in : (Facts → EntryFacts) → ℕ → Outcome (Option EntryAt) → EntryAnswer
-whole_step_in facts next (answered (Some t)) = shown_entry (facts t.entry.facts) next (less_whole t)
-whole_step_in facts next (answered None) = ended_series next
-whole_step_in facts next (refused n v) = refused_entry next n v
-
-unfoldable pub whole_step_answer : RunTimeEndian → Section → NameIndex → Step EntryAt NameEntryIter → EntryAnswer
-whole_step_answer order s i t = whole_step_in (facts_of order s i) t.cursor.at t.answer

@@ -11,7 +11,8 @@ ghost use Rattle.answers.specs.Answers.{handed};
 ghost use Rattle.reader.specs.Answers.{outcome};
 ghost use Rattle.reader.specs.Steps.{step_of};
 ghost use Rattle.entries.specs.Entries.{less_whole};
-ghost use Rattle.entry_answers.specs.Entry.{compile_unit_fact, type_unit_fact, die_offset_fact, parent_fact, type_hash_fact, shown_entry, facts_of, refused_entry, whole_answer, whole_step_answer};
+ghost use Rattle.entry_answers.specs.Entry.{compile_unit_fact, type_unit_fact, die_offset_fact, parent_fact, type_hash_fact, shown_entry, refused_entry};
+ghost use Rattle.entry_answers.specs.Inner.{facts_of, whole_answer, whole_step_answer};
 
 use answers::Answer;
 use attributes::{EntryParent, Facts};
@@ -99,7 +100,7 @@ fn type_hash_fact(r: Result<Option<u64>, Error>) -> Answer
 
 // What the attributes that were kept of an entry say.
 // (They depend on the section and the index, so no `From`; so does what is shown of an entry, below.)
-#[tactic(auto, unfolding(crate::specs::Entry::facts_of))]
+#[tactic(auto, unfolding(crate::specs::Inner::facts_of))]
 #[inline(always)]
 fn facts_of(order: RunTimeEndian, section: &[u8], index: NameIndex, facts: Facts) -> EntryFacts
     ensures { result ≡ facts_of order section.now index facts }
@@ -161,7 +162,7 @@ fn shown_entry(
 }
 
 // The entry with a handle, which was read whole.
-#[tactic(auto, unfolding(crate::specs::Entry::whole_answer))]
+#[tactic(auto, unfolding(crate::specs::Inner::whole_answer))]
 #[inline(always)]
 pub fn entry_answer(
     order: RunTimeEndian,
@@ -179,7 +180,7 @@ pub fn entry_answer(
 }
 
 // A step over entries, with the cursor after it.
-#[tactic(auto, unfolding(crate::specs::Entry::whole_step_answer, crate::specs::Entry::no_facts))]
+#[tactic(auto, unfolding(crate::specs::Inner::whole_step_answer, crate::specs::Entry::no_facts))]
 #[inline(always)]
 pub fn entry_step_answer(
     order: RunTimeEndian,

@@ -24,7 +24,7 @@ use Rattle.names.specs.Names.{name_string, name_string_offset}
 use Rattle.index_query.specs.Candidates.{candidates_from, candidates_at}
 use Rattle.index_query.specs.Sanity.{SameExactly}
 use Rattle.index_query.specs.Matching.{same_bytes, text_is, name_matches, matching}
-use Rattle.index_query.specs.Records.{matches_at}
+use Rattle.index_query.specs.Inner.{matches_at}
 
 -- lists of other lengths are not the same
 pub other_length : (a b : List ℕ) → (length a ≡ length b → ⊥) → same_bytes a b ≡ false

@@ -25,7 +25,8 @@ use Rattle.index.specs.Layout.{parts, fitted}
 use Rattle.index.proofs.LayoutLaws.{fitted-answered}
 use Rattle.entries.specs.declared.entry.WholeEntry.{WholeEntry}
 use Rattle.entries.specs.declared.series.NameEntryIter.{NameEntryIter}
-use Rattle.entries.specs.Entries.{Entry, entry, entry_read, whole_of}
+use Rattle.entries.specs.Entries.{Entry, entry}
+use Rattle.entries.specs.Inner.{entry_read, whole_of}
 use Rattle.entries.specs.Series.{series_start, series_entry, entries_from, series, cursor_at, name_entries}
 use Rattle.entries.proofs.EntryLaws.{entry-offset, pool_end}
 use Rattle.entries.proofs.SeriesLaws.{series_step, series-ended, series-short}
@@ -38,9 +39,10 @@ use Rattle.records.specs.Records.{entry_record}
 use Rattle.index_query.specs.declared.series.IndexIter.{IndexIter}
 use Rattle.index_query.specs.Candidates.{candidates, candidates_from, candidates_at}
 use Rattle.index_query.specs.Matching.{name_matches, matching}
-use Rattle.index_query.specs.Records.{matches_at}
+use Rattle.index_query.specs.Inner.{matches_at}
 use Rattle.index_query.specs.Series.{record_of_entry, series_records}
-use Rattle.index_query.specs.Records.{all_series, index_records, entry_records, records_at, index_left}
+use Rattle.index_query.specs.Records.{all_series, index_records}
+use Rattle.index_query.specs.Inner.{entry_records, records_at, index_left}
 
 -- a section within the limit of refusal 13 has places of 32 bits
 pub places_small : longest < 2 ^ 32

@@ -9,7 +9,7 @@ use Rattle.index.specs.declared.layout.Parts.{Parts}
 use Rattle.records.specs.declared.record.Record.{Record}
 use Rattle.index_query.specs.declared.candidates.Candidate.{Candidate}
 use Rattle.index_query.specs.Candidates.{candidates_from}
-use Rattle.index_query.specs.Records.{matches_at, entry_records}
+use Rattle.index_query.specs.Inner.{matches_at, entry_records}
 use Rattle.reader.specs.Parts.{Section}
 
 -- a candidate, if there is one, and those after it

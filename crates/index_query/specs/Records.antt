@@ -25,20 +25,3 @@ module _ (order : RunTimeEndian) (s : Section) where
   -- the records of an index: those of the candidates that match
   unfoldable pub index_records : List ℕ → ℕ → List ℕ → ℕ → NameIndex → Listing Record
   index_records strs hash text offset i = or_broken (candidates order s i hash) λ names. all_series offset i (matching (name_matches order s strs i text) names)
-
-  -- What single functions of the code leave. The names that match among the candidates from a number on,
-  unfoldable pub matches_at : List ℕ → NameIndex → ℕ → List ℕ → ℕ → Listing ℕ
-  matches_at strs i hash text from = or_broken (candidates_at order s i hash from) (matching (name_matches order s strs i text))
-
-  -- and the records of their series;
-  unfoldable pub records_at : List ℕ → ℕ → List ℕ → ℕ → NameIndex → ℕ → Listing Record
-  records_at strs hash text offset i from = all_series offset i (matches_at strs i hash text from)
-
-  -- the records of the entries from a place on, in the series of a name;
-  unfoldable pub entry_records : ℕ → NameIndex → Parts → ℕ → ℕ → Listing Record
-  entry_records offset i p name at = shown_by (record_of_entry order s offset i name) (entries_from order s p at)
-
-  -- the records that a cursor has left: those of its series, and those of the candidates after it
-  unfoldable pub index_left : List ℕ → ℕ → List ℕ → ℕ → NameIndex → IndexIter → Listing Record
-  index_left strs hash text offset i c =
-      or_broken (fitted s i) λ p. followed_by (entry_records offset i p c.name.0 c.at) (records_at strs hash text offset i c.next)

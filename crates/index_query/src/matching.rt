@@ -4,7 +4,7 @@ ghost use Rattle.std.specs.Prelude.{◌≡◌};
 ghost use Rattle.reader.specs.Answers.{outcome};
 ghost use Rattle.reader.specs.Listing.{left_by};
 ghost use Rattle.index_query.specs.Matching.{name_matches};
-ghost use Rattle.index_query.specs.Records.{matches_at};
+ghost use Rattle.index_query.specs.Inner.{matches_at};
 ghost use Rattle.index_query.specs.Answers.{matches_left};
 
 use crate::candidates::{Candidate, next_candidate};

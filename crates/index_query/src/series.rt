@@ -2,7 +2,8 @@
 // (order, section, strings, hash, name) stay parameters: with a struct that lends slices, contracts are no plainer (docs/DECISIONS.md).
 ghost use Rattle.std.specs.Prelude.{◌≡◌, ℕ, ◌≤◌, List, length};
 ghost use Rattle.reader.specs.Errors.{longest};
-ghost use Rattle.index_query.specs.Records.{entry_records, index_records, index_left};
+ghost use Rattle.index_query.specs.Records.{index_records};
+ghost use Rattle.index_query.specs.Inner.{entry_records, index_left};
 ghost use Rattle.reader.specs.Answers.{outcome};
 ghost use Rattle.reader.specs.Listing.{item, or_broken, left_by};
 ghost use Rattle.index_query.specs.Answers.{entry_left};
@@ -72,7 +73,7 @@ pub fn start(
 
 impl IndexIter {
     // The next record of the index, which lies at `offset` in the section. After an end or a refusal the cursor is worth nothing.
-    #[tactic(auto, using(crate::proofs::RecordLaws::short_fits, crate::proofs::RecordLaws::left_fits, crate::proofs::RecordLaws::next_series, crate::proofs::RecordLaws::series_refused, crate::proofs::RecordLaws::none_left, crate::proofs::RecordLaws::match_refused, crate::proofs::RecordLaws::fewer_matches), unfolding(crate::specs::Records::index_left, reader::specs::Listing::followed_by))]
+    #[tactic(auto, using(crate::proofs::RecordLaws::short_fits, crate::proofs::RecordLaws::left_fits, crate::proofs::RecordLaws::next_series, crate::proofs::RecordLaws::series_refused, crate::proofs::RecordLaws::none_left, crate::proofs::RecordLaws::match_refused, crate::proofs::RecordLaws::fewer_matches), unfolding(crate::specs::Inner::index_left, reader::specs::Listing::followed_by))]
     pub fn next(
         &mut self,
         order: RunTimeEndian,

@@ -17,7 +17,8 @@ use Rattle.index.specs.declared.layout.Parts.{Parts}
 use Rattle.index.specs.Layout.{parts, fitted}
 use Rattle.entries.specs.declared.entry.WholeEntry.{WholeEntry}
 use Rattle.entries.specs.declared.series.NameEntryIter.{NameEntryIter}
-use Rattle.entries.specs.Entries.{Entry, entry, entry_read, whole_of}
+use Rattle.entries.specs.Entries.{Entry, entry}
+use Rattle.entries.specs.Inner.{entry_read, whole_of}
 use Rattle.entries.specs.Series.{series_start, series_entry, entries_from, series, cursor_at, name_entries}
 use Rattle.entries.proofs.EntryLaws.{entries_forward}
 use Rattle.entries.proofs.SeriesLaws.{series_step}

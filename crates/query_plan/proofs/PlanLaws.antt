@@ -14,8 +14,10 @@ use Rattle.reader.specs.Outcome.{Outcome, answered, refused}
 use Rattle.reader.specs.Listing.{Listing, ended, broken, item, items_of, counted, items}
 use Rattle.reader.proofs.ListingLaws.{plus, plus-end, plus-plus, counted-item, counted-items, items-length}
 use Rattle.records.specs.declared.record.Record.{Record}
-use Rattle.section_records.specs.Records.{section_records, query_left, first_record}
-use Rattle.query_plan.specs.Plans.{Queried, unless_refused, queried, planned}
+use Rattle.section_records.specs.Records.{section_records}
+use Rattle.section_records.specs.Inner.{query_left, first_record}
+use Rattle.query_plan.specs.Plans.{Queried, unless_refused, queried}
+use Rattle.query_plan.specs.Inner.{planned}
 use Rattle.section_records.proofs.WalkLaws.{section_left}
 use Rattle.section_records.proofs.BoundLaws.{total_small}
 

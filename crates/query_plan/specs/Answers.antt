@@ -5,7 +5,8 @@ use Rattle.reader.specs.Answers.{outcome}
 use Rattle.reader.specs.declared.endianity.RunTimeEndian.{RunTimeEndian}
 use Rattle.records.specs.declared.record.Record.{Record}
 use Rattle.query_plan.specs.declared.Plan.{Plan}
-use Rattle.query_plan.specs.Plans.{Queried, writing_left}
+use Rattle.query_plan.specs.Plans.{Queried}
+use Rattle.query_plan.specs.Inner.{writing_left}
 use Rattle.reader.specs.Parts.{Section}
 
 abbrev pub plan_outcome : RunTimeEndian → Section → List ℕ → ℕ → List ℕ → Plan → Queried

@@ -9,8 +9,8 @@
 ghost use Rattle.std.specs.Prelude.{◌≡◌, ◌+◌, ◌<◌, ◌^◌};
 ghost use Rattle.reader.specs.Answers.{outcome};
 ghost use Rattle.reader.specs.Listing.{counted, items};
-ghost use Rattle.section_records.specs.Records.{query_left};
-ghost use Rattle.query_plan.specs.Plans.{planned, writing_left, nothing_to_write};
+ghost use Rattle.section_records.specs.Inner.{query_left};
+ghost use Rattle.query_plan.specs.Inner.{planned, writing_left, nothing_to_write};
 ghost use Rattle.query_plan.specs.Answers.{write_left, plan_outcome};
 
 use reader::{Error, RunTimeEndian, too_long};
@@ -70,7 +70,7 @@ fn nothing(answer: Result<u64, Error>) -> Plan
 }
 
 // Counts the records of the section, and keeps the first.
-#[tactic(auto, unfolding(crate::specs::Plans::writing_left), using(crate::proofs::PlanLaws::planned_by, crate::proofs::PlanLaws::queried_ended, crate::proofs::PlanLaws::queried_broken, crate::proofs::PlanLaws::queried_item))]
+#[tactic(auto, unfolding(crate::specs::Inner::writing_left), using(crate::proofs::PlanLaws::planned_by, crate::proofs::PlanLaws::queried_ended, crate::proofs::PlanLaws::queried_broken, crate::proofs::PlanLaws::queried_item))]
 pub fn plan_query(
     order: RunTimeEndian,
     section: &[u8],
@@ -106,7 +106,7 @@ pub fn plan_query(
 
 impl Writing {
     // The next record to write.
-    #[tactic(auto, using(crate::proofs::PlanLaws::take_none, crate::proofs::PlanLaws::take_first), unfolding(crate::specs::Plans::writing_left, reader::specs::Listing::items_of))]
+    #[tactic(auto, using(crate::proofs::PlanLaws::take_none, crate::proofs::PlanLaws::take_first), unfolding(crate::specs::Inner::writing_left, reader::specs::Listing::items_of))]
     pub fn next(
         &mut self,
         order: RunTimeEndian,

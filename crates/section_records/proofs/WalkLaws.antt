@@ -29,11 +29,13 @@ use Rattle.entries.proofs.EntryLaws.{pool_end}
 use Rattle.index_query.specs.declared.series.IndexIter.{IndexIter}
 use Rattle.index_query.specs.Candidates.{candidates_from, candidates_at}
 use Rattle.index_query.specs.Matching.{matching}
-use Rattle.index_query.specs.Records.{matches_at}
-use Rattle.index_query.specs.Records.{all_series, index_records, records_at, index_left}
+use Rattle.index_query.specs.Inner.{matches_at}
+use Rattle.index_query.specs.Records.{all_series, index_records}
+use Rattle.index_query.specs.Inner.{records_at, index_left}
 use Rattle.index_query.proofs.RecordLaws.{places_small, records-ended, left_fits}
 use Rattle.section_records.specs.declared.QueryIter.{QueryIter}
-use Rattle.section_records.specs.Records.{header_records, headers_left, section_records, query_left, first_record}
+use Rattle.section_records.specs.Records.{header_records, headers_left, section_records}
+use Rattle.section_records.specs.Inner.{query_left, first_record}
 
 -- what a header that was read says: its offset is its place, and its index ends past it, inside the section
 pub header_read : (order : RunTimeEndian) (s : List ℕ) (at : ℕ) (c : HeaderCut) (h : NameIndexHeader) → answered c ≡ header_cut order s at → answered h ≡ header_body order s c

@@ -11,7 +11,8 @@ use Rattle.headers.specs.Headers.{headers_from}
 use Rattle.index.specs.Layout.{no_index}
 use Rattle.index.specs.Open.{name_index}
 use Rattle.records.specs.declared.record.Record.{Record}
-use Rattle.index_query.specs.Records.{index_records, index_left}
+use Rattle.index_query.specs.Records.{index_records}
+use Rattle.index_query.specs.Inner.{index_left}
 use Rattle.section_records.specs.declared.QueryIter.{QueryIter}
 use Rattle.reader.specs.Parts.{Section}
 
@@ -30,12 +31,3 @@ headers_left order s strs hash text at = header_records order s strs hash text (
 unfoldable pub section_records : RunTimeEndian → Section → List ℕ → ℕ → List ℕ → Listing Record
 section_records order s strs hash text =
     or_broken (fail_if (ltb longest (length s)) SectionTooLong) λ u. or_broken (fail_if (ltb longest (length strs)) SectionTooLong) λ v. headers_left order s strs hash text 0
-
--- What single functions of the code leave: the records that a cursor has left, those of its index and those of the headers after it.
-unfoldable pub query_left : RunTimeEndian → Section → List ℕ → ℕ → List ℕ → QueryIter → Listing Record
-query_left order s strs hash text c =
-    followed_by (index_left order s strs hash text c.offset c.index c.records) (headers_left order s strs hash text c.at)
-
--- the cursor before the first header: no index is open
-unfoldable pub first_record : QueryIter
-first_record = record { at = 0; offset = 0; index = no_index; records = record { name = record { 0 = 0 }; at = 0; next = 0 } }

@@ -4,7 +4,8 @@
 #![tactic(auto)]
 
 ghost use Rattle.std.specs.Prelude.{◌≡◌, List, ℕ};
-ghost use Rattle.section_records.specs.Records.{headers_left, query_left, first_record};
+ghost use Rattle.section_records.specs.Records.{headers_left};
+ghost use Rattle.section_records.specs.Inner.{query_left, first_record};
 ghost use Rattle.reader.specs.Listing.{item, left_by};
 ghost use Rattle.section_records.specs.Answers.{next_past};
 
@@ -26,7 +27,7 @@ pub struct QueryIter {
 
 // The cursor before the first header: no index is open.
 // (A name that says what comes first, in place of a `Default`.)
-#[tactic(auto, unfolding(crate::specs::Records::first_record, index::specs::Layout::no_index))]
+#[tactic(auto, unfolding(crate::specs::Inner::first_record, index::specs::Layout::no_index))]
 pub fn first_record() -> QueryIter
     ensures { result ≡ first_record }
 {
@@ -70,7 +71,7 @@ fn open_next(
 
 impl QueryIter {
     // The next record of the section. After an end or a refusal the cursor is worth nothing.
-    #[tactic(auto, unfolding(reader::specs::Listing::followed_by, crate::specs::Records::query_left))]
+    #[tactic(auto, unfolding(reader::specs::Listing::followed_by, crate::specs::Inner::query_left))]
     pub fn next(
         &mut self,
         order: RunTimeEndian,

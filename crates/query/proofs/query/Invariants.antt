@@ -1,6 +1,6 @@
 -- At every turn, what the loop as a function (`run_list`) makes of the records now is what it makes of those that were lent.
 use Rattle.std.proofs.Common.{length, ◌-◌, ◌≡◌}
-use Rattle.query_plan.specs.Plans.{writing_left}
+use Rattle.query_plan.specs.Inner.{writing_left}
 use Rattle.query.proofs.Runs.{run_list}
 use Rattle.query.proofs.query.Given as goal
 

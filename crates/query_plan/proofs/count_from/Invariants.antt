@@ -3,7 +3,7 @@ use mathlib.Core.Path.{◌≡◌}
 use Prim.Native.Nat.{◌+◌}
 use Rattle.reader.specs.Listing.{counted, items}
 use Rattle.reader.proofs.ListingLaws.{plus}
-use Rattle.section_records.specs.Records.{query_left}
+use Rattle.section_records.specs.Inner.{query_left}
 use Rattle.query_plan.proofs.count_from.Given as goal
 
 abbrev pub invariant-loop-count : goal.invariant-loop-count

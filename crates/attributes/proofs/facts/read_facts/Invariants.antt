@@ -2,7 +2,7 @@
 use Rattle.attributes.proofs.AttributeLaws.{facts_from}
 use Rattle.reader.specs.Parts.{left_at}
 use mathlib.Core.Path.{◌≡◌}
-use Rattle.attributes.specs.Attributes.{facts_read}
+use Rattle.attributes.specs.Inner.{facts_read}
 use Rattle.attributes.proofs.facts.read_facts.Given as goal
 
 abbrev pub invariant-loop-a : goal.invariant-loop-a

@@ -2,7 +2,7 @@
 use mathlib.Core.Path.{◌≡◌}
 use lib.ListN.{length}
 use Rattle.index_query.specs.Candidates.{candidates_from}
-use Rattle.index_query.specs.Records.{matches_at}
+use Rattle.index_query.specs.Inner.{matches_at}
 use Rattle.index_query.proofs.matching.next_match.Given as goal
 
 abbrev pub invariant-loop-candidate : goal.invariant-loop-candidate

@@ -2,7 +2,7 @@
 use mathlib.Core.Path.{◌≡◌}
 use Prim.Native.Nat.{◌-◌}
 use lib.ListN.{length}
-use Rattle.section_records.specs.Records.{query_left}
+use Rattle.section_records.specs.Inner.{query_left}
 use Rattle.section_records.proofs.QueryIter.next.Given as goal
 
 abbrev pub invariant-loop-record : goal.invariant-loop-record

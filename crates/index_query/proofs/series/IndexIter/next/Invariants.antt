@@ -1,8 +1,8 @@
 -- What a cursor has left is decided by the entry at its place, or else by the next name that matches, and each turn leaves one such name fewer.
 use mathlib.Core.Path.{◌≡◌}
 use Rattle.reader.specs.Listing.{items}
-use Rattle.index_query.specs.Records.{matches_at}
-use Rattle.index_query.specs.Records.{index_left}
+use Rattle.index_query.specs.Inner.{matches_at}
+use Rattle.index_query.specs.Inner.{index_left}
 use Rattle.index_query.proofs.series.IndexIter.next.Given as goal
 
 abbrev pub invariant-loop-record : goal.invariant-loop-record
