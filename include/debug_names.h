@@ -16,7 +16,8 @@
  *   call is refused, or answers an end or none, every field that its comment does not name is 0.
  * - A step answers the cursor after it, also where it is refused. After 13 and 14 that is the caller's cursor, number by number.
  * - The number of a name, the handle of an entry and the offset of a string, a unit or a DIE each have a type of their own, by which parameters
- *   and fields are declared. `value` is a uint64_t, since it also holds what a refusal carries: the comments say which type it has else.
+ *   and fields are declared. `value` is a uint64_t, since it also holds what a refusal carries, and so is `unit_value`: the comments say which
+ *   type it has else. In a record the handle of the entry has 32 bits, and no such type.
  *
  * A place is a byte offset from the section's start. The structs are those of x86-64. */
 #ifndef DEBUG_NAMES_H
@@ -294,8 +295,8 @@ debug_names_string debug_names_get_str(const uint8_t *strings, size_t strings_le
 
 /* ---- The hash table */
 
-/* The cursor over the names of a bucket: kind 1, and the value is the debug_names_name_index of its first name; kind 0 where the bucket is
- * empty. */
+/* The cursor over the names of a bucket: kind 1, and the value is the debug_names_name_index of its first name (of a start one past the last
+ * name the number of names, and the first step is the end); kind 0 where the bucket's start is 0. */
 debug_names_answer debug_names_find_by_bucket(
     uint32_t order, const uint8_t *section, size_t section_len, debug_names_index index, uint32_t bucket);
 /* The next name of a bucket, from the cursor `name`. */

@@ -456,12 +456,12 @@ public:
     // ---- The hash table
 
     // The names of a bucket, as a range of result<bucket_name>. Refused with 1 at a bucket that is not below the number of buckets, and
-    // where the bucket starts past the last name.
+    // where the bucket starts more than one past the last name.
     inline steps<detail::bucket_walk> find_by_bucket(std::uint32_t bucket) const noexcept;
     // The numbers of the names for which the hash is stored, as a range of result<name_index>. Names of the same hash may have other
     // strings: compare these. Refused as `find_by_bucket` is for the hash's bucket; so with 1 where there is no hash table.
     inline steps<detail::hash_walk> find_by_hash(std::uint32_t hash) const noexcept;
-    // Whether lookups by hash list every name. Refused with 1 where a bucket starts past the last name.
+    // Whether lookups by hash list every name. Refused with 1 where a bucket starts more than one past the last name.
     result<table> check_table() const noexcept {
         const debug_names_table said = ask(debug_names_check_table);
         if (said.status != DEBUG_NAMES_OK) return detail::why(said);

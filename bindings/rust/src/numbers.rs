@@ -1,6 +1,6 @@
 //! Numbers that stand for something, under the names that gimli gives them: types that do not mix.
 //!
-//! Each is one number, and crosses to the library as that number.
+//! Each is one number. Those that cross to the library do so as that number; the others are made of a `value`.
 
 /// An offset into the `.debug_info` section.
 #[repr(transparent)]

@@ -29,7 +29,7 @@ impl Reading {
     // byte, a byte of text stands for two, and spaces stand between.
     fn push(&mut self, byte: u8, to: &mut Bytes) {
         let at = self.digits;
-        if 1022 < at {
+        if 1023 < at {
             return;
         }
         if byte == b'\'' {

@@ -9,7 +9,7 @@
 // digits, and changes, a place and a byte, with any sign between them. Which letters and parts there are is the program's own. Bytes are pairs
 // of hexadecimal digits, text between two quotes, and names of sections, in any order. Parts at the end of a line may be missing.
 //
-// A section has at most 511 bytes, a part 24 numbers, and a line 12 changes: what is more is not read.
+// A section has at most 512 bytes, a part 24 numbers, and a line 12 changes: what is more is not read.
 #![tactic(auto)]
 
 mod bytes; // the bytes of a part

@@ -1,11 +1,12 @@
 // The hash table: lookups by bucket and by hash, their steps, and the table check (document 01, "Buckets and hashes").
 // (order, section, index) stay parameters, which C hands over one by one.
 ghost use Rattle.std.specs.Prelude.{◌≡◌};
-ghost use Rattle.hashes.specs.Lookups.{bucket_cursor, find_by_bucket, find_by_hash, bucket_step, hash_step};
+ghost use Rattle.hashes.specs.Lookups.{find_by_bucket, find_by_hash};
 ghost use Rattle.tables.specs.Check.{table_check};
-ghost use Rattle.handles.specs.Handles.{order_of, index_from, iter_from};
+ghost use Rattle.handles.specs.Handles.{order_of, index_from};
 ghost use Rattle.answers.specs.Answers.{handed, bucket_answer};
-ghost use Rattle.step_answers.specs.Steps.{bucket_step_answer, hash_answer, hash_step_answer, table_answer};
+ghost use Rattle.step_answers.specs.Steps.{hash_answer, table_answer};
+ghost use Rattle.exported.specs.Demand3.{next_in_bucket_call, next_by_hash_call};
 
 use answers::{Answer, bucket_answer};
 use handles::{HashCursor, IndexHandle, order_of};
@@ -40,7 +41,7 @@ pub extern "C" fn debug_names_next_in_bucket(
     bucket: u32,
     name: NameTableIndex,
 ) -> BucketAnswer
-    ensures { result ≡ bucket_step_answer (bucket_step (order_of order) section.now (index_from index) (bucket_cursor bucket name.0)) }
+    ensures { result ≡ next_in_bucket_call order section.now index bucket name }
 {
     let cursor = NameBucketIter {
         name_table_index: name,
@@ -70,7 +71,7 @@ pub extern "C" fn debug_names_next_by_hash(
     index: IndexHandle,
     cursor: HashCursor,
 ) -> HashAnswer
-    ensures { result ≡ hash_step_answer cursor (hash_step (order_of order) section.now (index_from index) (iter_from cursor)) }
+    ensures { result ≡ next_by_hash_call order section.now index cursor }
 {
     let names = NameHashIter::from(cursor);
     hash_step_answer(

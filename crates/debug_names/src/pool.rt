@@ -5,7 +5,8 @@ ghost use Rattle.std.specs.Prelude.{◌≡◌};
 ghost use Rattle.entries.specs.Series.{name_entries};
 ghost use Rattle.handles.specs.Handles.{order_of, index_from};
 ghost use Rattle.answers.specs.Answers.{handed, entries_answer};
-ghost use Rattle.entry_answers.specs.Entry.{entry_answer, entry_step_answer};
+ghost use Rattle.entry_answers.specs.Entry.{entry_answer};
+ghost use Rattle.exported.specs.Demand3.{next_entry_call};
 
 use answers::{Answer, entries_answer};
 use entries::{NameEntryIter, name_entries, whole_entry};
@@ -36,7 +37,7 @@ pub extern "C" fn debug_names_next_entry(
     index: IndexHandle,
     at: usize,
 ) -> EntryAnswer
-    ensures { result ≡ entry_step_answer (order_of order) section.now (index_from index) (record { at = at }) }
+    ensures { result ≡ next_entry_call order section.now index at }
 {
     let endian = order_of(order);
     let opened = NameIndex::from(index);

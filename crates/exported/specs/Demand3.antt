@@ -1,7 +1,8 @@
--- Document 01, demand 3, of the exported calls, in the structs that they hand over: its first part, each one theorem about lists of steps of any
--- length, and its third, of the query. The laws `exported-buckets` and `exported-hashes` of proofs/LookupLaws.antt, `exported-entries` of
--- proofs/EntryLaws.antt and `exported_query_finds` of proofs/QueryLaws.antt prove them. Order, index and cursor are the caller's numbers, as in
--- the contracts of the exported functions.
+-- Document 01, demand 3, of the exported calls: its first part, each one theorem about lists of steps of any length, in the structs that the steps hand
+-- over, and its third, of the query. What the third supposes, that the indexes all open and are complete or have no hash table, is demand 3's own,
+-- over the steps of the crates below. The laws `exported-buckets` and `exported-hashes` of proofs/LookupLaws.antt, `exported-entries` of
+-- proofs/EntryLaws.antt and `exported_query_finds` of proofs/QueryLaws.antt prove them. Order, index and cursor are the caller's numbers; the contracts
+-- of the exported steps are by the definitions below.
 use Rattle.std.specs.Prelude.{ℕ, ◌≡◌, cond, List, [], ◌∷◌, ◌++◌, map, length, take, drop, eqb, Option, Some, None}
 use Rattle.reader.specs.Outcome.{Outcome, answered, refused}
 use Rattle.reader.specs.Listing.{answers_of}
@@ -49,8 +50,8 @@ told_by_hash t = told t.status t.kind t.value (record { 0 = t.value })
 abbrev pub told_by_entry : EntryAnswer → Outcome (Option NameEntry)
 told_by_entry t = told t.status t.kind t.value (record { offset = record { 0 = t.value }; abbrev_code = t.abbrev_code; tag = t.tag })
 
--- What the exported steps hand over of a caller's cursor, as their contracts say it: `debug_names_next_in_bucket` of the number of a name,
--- `debug_names_next_by_hash` of a hash cursor, and `debug_names_next_entry` of a place.
+-- What the exported steps hand over of a caller's cursor: `debug_names_next_in_bucket` of the number of a name, `debug_names_next_by_hash` of a hash
+-- cursor, and `debug_names_next_entry` of a place.
 abbrev pub next_in_bucket_call : ℕ → List ℕ → IndexHandle → ℕ → NameTableIndex → BucketAnswer
 next_in_bucket_call order s h bucket name = bucket_step_answer (bucket_step (order_of order) s (index_from h) (bucket_cursor bucket name.0))
 

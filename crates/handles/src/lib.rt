@@ -1,4 +1,4 @@
-// What a caller in C, C++ or Rust hands in: a byte order, an index and a hash cursor, each of plain numbers, and what they stand for. The
+// What a caller in C, C++ or Rust hands in: a byte order, an index and a hash cursor, each of numbers, and what they stand for. The
 // exported functions are in `debug_names`, which stands on this crate; include/debug_names.h declares both.
 //
 // A byte order is a number, 0 for little and any other for big. An index is a handle of numbers: whatever they are, it stands for an index,

@@ -1,4 +1,4 @@
-// The calls on an index, each by a letter:
+// The calls on an index, each by a letter (and a space, and its name):
 //
 //     C L F T  how many compile units, local, foreign and all type units    p  where its parts lie
 //     B N      how many buckets and names                                   H  whether it has a hash table
@@ -49,7 +49,7 @@ pub fn calls(rt: &impl Print, case: Case, section: &[u8]) -> io::Result<()> {
 }
 
 impl On<'_> {
-    // The calls that stand in a list from a part on.
+    // The calls that stand in a list from a part on, up to the list's part 19.
     fn each(self, rt: &impl Print, list: Case, from: usize) -> io::Result<()> {
         for n in from..20 {
             self.one(rt, list.part(n))?;

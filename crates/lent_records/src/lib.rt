@@ -16,7 +16,7 @@ pub struct Got {
 }
 
 // A record that no query writes: there are no unit kind 7 and no flag 7.
-pub fn old() -> Record {
+fn old() -> Record {
     Record {
         unit_value: 777,
         die_offset: UnitOffset(777),

@@ -1,5 +1,5 @@
--- Demand 3 of the exported calls on case A: that what it supposes of the lookups, their steps and the query holds there, and what it says. All is
--- in the structs that the calls hand over.
+-- Demand 3 of the exported calls on case A: that what it supposes of the lookups, their steps and the query holds there, and what it says: of
+-- the steps in the structs that the calls hand over, of the query with demand 3's own suppositions.
 use Rattle.std.specs.Prelude.{ℕ, ◌≡◌, List, [], ◌∷◌, ◌++◌, map, length, take, drop, Option, Some}
 use Rattle.reader.specs.Outcome.{Outcome, answered}
 use Rattle.reader.specs.Listing.{answers_of}

@@ -2,7 +2,7 @@
 use crate::{Show, Style, numbers};
 use attributes::EntryParent;
 use entries::{NameEntry, NameEntryIter};
-use reader::{NameEntryOffset, UnitOffset};
+use reader::UnitOffset;
 use std::io;
 
 // An entry: its offset, its code and its tag.
@@ -19,12 +19,6 @@ impl Show for NameEntry {
 impl Show for NameEntryIter {
     fn show(&self, rt: &impl Print, style: Style) -> io::Result<()> {
         self.at.show(rt, style)
-    }
-}
-
-impl Show for NameEntryOffset {
-    fn show(&self, rt: &impl Print, _style: Style) -> io::Result<()> {
-        numbers(rt, &[self.0 as u64])
     }
 }
 

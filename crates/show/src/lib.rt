@@ -41,7 +41,7 @@ pub trait Show {
     fn show(&self, rt: &impl Print, style: Style) -> io::Result<()>;
 }
 
-// What a call answered, or its refusal, with document 01's number and value.
+// What a call answered, or its refusal, with its number and value.
 impl<T: Show> Show for Result<T, Error> {
     fn show(&self, rt: &impl Print, style: Style) -> io::Result<()> {
         match self {
