@@ -376,20 +376,6 @@ pub parsed_found : (s : List ℕ) (at end : ℕ) → parsed s at end ≡ (found 
 unfolding parsed found table
 parsed_found s at end = parsed_in (part_end s end - at) s at end
 
--- a declaration that was handed on moves forward, and stays inside its part
-pub declared-forward : (s : List ℕ) (at end : ℕ) (d : NameAbbreviation) → declared s at end ≡ answered (Some d) → Forward s at end d.next
-unfolding declared
-declared-forward s at end d e =
-    let (o, read, same) = bind_answered (declaration s at end) _ (Some d) e in
-    whole o read (same_answer same)
-  where
-    whole : (o : Option Declaration) → declaration s at end ≡ answered o → handed_out o ≡ Some d → Forward s at end d.next
-    whole None read same = absurd (none-ne-some _ same)
-    whole (Some f) read same =
-        let (ahead, inside) = declaration-forward s at end f read in
-        let past : d.next ≡ f.next = ap (λ a. a.next) (sym (some-injective _ _ same)) in
-        (omega arith, omega arith)
-
 -- a head and the pairs after it move forward
 pub parts_forward : (s : List ℕ) (at end : ℕ) (h : Head) (next : ℕ) → head s at end ≡ answered (Some h) → attributes_end s h.next end ≡ answered next → Forward s at end next
 unfolding attributes_end

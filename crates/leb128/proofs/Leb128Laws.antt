@@ -176,12 +176,6 @@ encoded_turns zero (suc m) n h g = rw (lt-ltb n 128 (omega arith))
 encoded_turns (suc k) zero n h g = rw (lt-ltb n 128 (omega arith))
 encoded_turns (suc k) (suc m) n h g = rw (encoded_turns k m (n / 128) (omega arith) (omega arith))
 
-pub encoded_step : (n : ℕ) → encoded n ≡ cond (ltb n 128) (n ∷ []) ((n % 128 + 128) ∷ encoded (n / 128))
-unfolding encoded encoded_in
-encoded_step n =
-    encoded_turns n (suc n) n (omega arith) (omega arith)
-    ∙ rw (encoded_turns n (n / 128) (n / 128) (omega arith) (omega arith))
-
 -- the examples of section 7.6
 pub encoded_examples : map encoded (2 ∷ 127 ∷ 128 ∷ 129 ∷ 12857 ∷ [])
     ≡ ((2 ∷ []) ∷ (127 ∷ []) ∷ ((0 + 0x80) ∷ 1 ∷ []) ∷ ((1 + 0x80) ∷ 1 ∷ []) ∷ ((57 + 0x80) ∷ 100 ∷ []) ∷ [])

@@ -88,19 +88,6 @@ unfolding number_at spelled digits
 number-one Little s at h = rw (drop-cons s at 0) (omega arith)
 number-one Big s at h = rw (drop-cons s at 0) (omega arith)
 
--- a number of two bytes
-pub number_two : (order : RunTimeEndian) (s : List ℕ) (at : ℕ) → at + 2 ≤ length s → get_or s (low_at order 1 at) 0 + 256 * get_or s (high_at order 1 at) 0 ≡ number_at order 2 s at
-number_two order s at h =
-    rw (← number-one order s (low_at order 1 at) (low order), ← number-one order s (high_at order 1 at) (high order)) (number_join order 1 s at h)
-  where
-    low : (order : RunTimeEndian) → low_at order 1 at < length s
-    low Little = omega arith
-    low Big = omega arith
-
-    high : (order : RunTimeEndian) → high_at order 1 at < length s
-    high Little = omega arith
-    high Big = omega arith
-
 -- where a part has the bytes, the number that they spell is the section's at that place
 pub number_in_part : (order : RunTimeEndian) (n : ℕ) (s : List ℕ) (at end : ℕ) → n ≤ left_at s at end → spelled order (take n (slice at end s)) ≡ number_at order n s at
 unfolding number_at

@@ -25,7 +25,7 @@ impl Format {
     }
 }
 
-// These numbers cross to C as they are, each in a struct of its own: so no number stands where another is meant.
+// Numbers that keep a name: each is a struct of its own, so that none stands where another is meant. Those that cross to C cross as their number.
 
 // An offset into the .debug_info section.
 #[repr(C)]
