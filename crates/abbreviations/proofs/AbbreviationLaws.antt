@@ -1,7 +1,7 @@
 -- Laws of the abbreviation table: pairs and declarations one at a time, with no count of turns, and what each answer tells.
 use Prim.Native.Nat.{ℕ, zero, suc, ◌+◌, ◌-◌, ◌≤◌, ◌<◌}
 use mathlib.Core.Path.{◌≡◌, refl, sym, ap, ◌∙◌}
-use mathlib.Core.Bool.{Bool, true, false, false≢true, cond}
+use mathlib.Core.Bool.{Bool, true, false, cond}
 use mathlib.Core.Logic.{◌⊎◌, inl, inr}
 use mathlib.Core.List.{List, []}
 use Rattle.std.specs.Prelude.{Option, Some, None}
@@ -9,7 +9,7 @@ use Rattle.reader.proofs.OutcomeLaws.{none-ne-some, some-injective}
 use native.Mathlib.Omega.{arith}
 use lib.Dec.{ltb, eqb}
 use lib.Seq.{slice}
-use borrow.Author.Tests.{eq-eqb, ne_eqb, eqb-true, le-ltb, ltb-true, ltb-false}
+use borrow.Author.Tests.{eq-eqb, ne_eqb, eqb-true, ltb-false}
 use Rattle.reader.specs.Outcome.{Outcome, answered, refused, ◌>>=◌, demand, refuse_if}
 use Rattle.reader.specs.Parts.{part_end, left_at, Forward}
 use Rattle.reader.specs.Numbers.{read_byte}

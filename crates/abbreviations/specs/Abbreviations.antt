@@ -1,9 +1,8 @@
 -- The abbreviation table: document 01, "Abbreviations"; DWARF 5, section 6.1.1.4.7. `s` is the section, and the table is its part
 -- from `at` up to `end`.
-use Rattle.std.specs.Prelude.{ℕ, zero, suc, ◌+◌, ◌-◌, ◌*◌, cond, List, [], ◌∷◌, ltb, eqb, Option, Some, None}
-use Rattle.reader.specs.Outcome.{Outcome, answered, refused, ◌>>=◌, ◌>>◌, demand, refuse_if}
+use Rattle.std.specs.Prelude.{ℕ, zero, suc, ◌-◌, cond, List, [], ◌∷◌, eqb, Option, Some, None}
+use Rattle.reader.specs.Outcome.{Outcome, answered, refused, ◌>>=◌, ◌>>◌}
 use Rattle.reader.specs.Parts.{part_end, left_at}
-use Rattle.reader.specs.Numbers.{read_byte}
 use Rattle.leb128.specs.Leb128.{leb128, unsigned_limit, u16_limit}
 use Rattle.reader.specs.Listing.{Listing, ended, broken, item, listing}
 use Rattle.abbreviations.specs.declared.NameAbbreviation.{NameAbbreviation}

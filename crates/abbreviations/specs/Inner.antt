@@ -1,15 +1,8 @@
 -- What only the code needs: what single functions of it answer or leave. A reader of the other files need not know these.
-use Rattle.std.specs.Prelude.{ℕ, zero, suc, ◌+◌, ◌-◌, ◌*◌, cond, List, [], ◌∷◌, ltb, eqb, Option, Some, None}
+use Rattle.std.specs.Prelude.{ℕ, cond, List, ltb, eqb, Option, Some, None}
 use Rattle.reader.specs.Outcome.{Outcome, answered, refused, ◌>>=◌, ◌>>◌, demand, refuse_if}
-use Rattle.reader.specs.Parts.{part_end, left_at}
 use Rattle.reader.specs.Numbers.{read_byte}
-use Rattle.leb128.specs.Leb128.{leb128, unsigned_limit, u16_limit}
-use Rattle.reader.specs.Listing.{Listing, ended, broken, item, listing}
 use Rattle.abbreviations.specs.declared.NameAbbreviation.{NameAbbreviation}
-use Rattle.abbreviations.specs.declared.ReadAttribute.{ReadAttribute}
-use Rattle.abbreviations.specs.declared.Head.{Head}
-use Rattle.reader.specs.Errors.{fail_if, refusal, require}
-use Rattle.reader.specs.declared.error.Error.TheVariants.{AbbreviationTagZero, AttributeFormZero, AttributeNameZero, UnexpectedEof}
 use Rattle.abbreviations.specs.Abbreviations.{attributes, declaration, handed_out}
 
 -- What single functions of the code answer.

@@ -24,7 +24,7 @@ use Rattle.attributes.specs.declared.facts.Facts.{Facts}
 use Rattle.attributes.specs.Meaning.{unit_number_in, unit_number}
 use Rattle.attributes.specs.Sanity.{ValuesDeclared, EntryValuesOnward, stands, StandsExactly}
 use Rattle.attributes.specs.Attributes.{NameAttribute, Values, value_then, values, kept, first, compile_unit_name, type_unit_name, die_offset_name, parent_name, type_hash_name, facts}
-use Rattle.attributes.specs.Inner.{values_in, values_from, facts_read, or_else, with_one, with_fact, no_facts}
+use Rattle.attributes.specs.Inner.{values_in, values_from, facts_read, with_one, with_fact, no_facts}
 use Rattle.reader.specs.declared.reader.Read.{Read}
 use Rattle.std.specs.Prelude.{Option, Some, None}
 

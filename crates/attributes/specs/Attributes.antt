@@ -1,17 +1,13 @@
 -- The attributes of an entry: document 01, "Entries and attributes"; DWARF 5, section 6.1.1.4.8. `s` is the section; values are read
 -- from the place `at` on, in a part up to `end`.
-use Rattle.std.specs.Prelude.{ℕ, zero, suc, cond, List, [], ◌∷◌, eqb, Option, Some, None}
-use Rattle.reader.specs.Outcome.{Outcome, answered, refused, ◌>>=◌}
-use Rattle.reader.specs.Parts.{left_at}
+use Rattle.std.specs.Prelude.{ℕ, cond, List, [], ◌∷◌, eqb, Option, Some, None}
+use Rattle.reader.specs.Outcome.{Outcome, answered, ◌>>=◌}
 use Rattle.reader.specs.declared.endianity.RunTimeEndian.{RunTimeEndian}
-use Rattle.abbreviations.specs.Abbreviations.{Attribute, pair}
+use Rattle.abbreviations.specs.Abbreviations.{Attribute}
 use Rattle.forms.specs.declared.NameAttributeValue.{NameAttributeValue}
 use Rattle.forms.specs.Forms.{form_value}
 use Rattle.attributes.specs.declared.attribute.FirstAttribute.{FirstAttribute}
 use Rattle.attributes.specs.declared.facts.Facts.{Facts}
-use Rattle.reader.specs.declared.reader.Read.{Read}
-use Rattle.reader.specs.Errors.{refusal}
-use Rattle.reader.specs.declared.error.Error.TheVariants.{UnexpectedEof}
 use Rattle.reader.specs.Parts.{Section}
 
 -- an attribute: its name, its form and its value

@@ -1,10 +1,9 @@
 -- What only the code needs: what single functions of it answer or leave. A reader of the other files need not know these.
-use Rattle.std.specs.Prelude.{ℕ, zero, suc, cond, List, [], ◌∷◌, eqb, Option, Some, None}
-use Rattle.reader.specs.Outcome.{Outcome, answered, refused, ◌>>=◌}
+use Rattle.std.specs.Prelude.{ℕ, zero, suc, cond, [], eqb, Option, Some, None}
+use Rattle.reader.specs.Outcome.{Outcome, answered, ◌>>=◌}
 use Rattle.reader.specs.Parts.{left_at}
 use Rattle.reader.specs.declared.endianity.RunTimeEndian.{RunTimeEndian}
-use Rattle.abbreviations.specs.Abbreviations.{Attribute, pair}
-use Rattle.forms.specs.declared.NameAttributeValue.{NameAttributeValue}
+use Rattle.abbreviations.specs.Abbreviations.{pair}
 use Rattle.forms.specs.Forms.{form_value}
 use Rattle.attributes.specs.declared.attribute.FirstAttribute.{FirstAttribute}
 use Rattle.attributes.specs.declared.facts.Facts.{Facts}

@@ -1,7 +1,7 @@
 -- What the first attribute of a name says: document 01, "Entries and attributes". A value of a wrong form is refused with 12 and the
 -- form; where no attribute has the name, there is nothing to say.
-use Rattle.std.specs.Prelude.{ℕ, cond, List, ltb, eqb, Option, Some, None}
-use Rattle.reader.specs.Outcome.{Outcome, answered, refused, ◌>>=◌}
+use Rattle.std.specs.Prelude.{ℕ, cond, ltb, Option, Some, None}
+use Rattle.reader.specs.Outcome.{Outcome, answered, ◌>>=◌}
 use Rattle.reader.specs.declared.endianity.RunTimeEndian.{RunTimeEndian}
 use Rattle.index.specs.declared.layout.NameIndex.{NameIndex}
 use Rattle.names.specs.Units.{nth_compile_unit, nth_type_unit}

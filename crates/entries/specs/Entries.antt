@@ -14,9 +14,8 @@ use Rattle.abbreviations.specs.Abbreviations.{table, find}
 use Rattle.index.specs.declared.layout.NameIndex.{NameIndex}
 use Rattle.index.specs.declared.layout.Parts.{Parts}
 use Rattle.index.specs.Layout.{fitted}
-use Rattle.attributes.specs.Attributes.{NameAttribute, values, facts}
+use Rattle.attributes.specs.Attributes.{NameAttribute, values}
 use Rattle.entries.specs.declared.entry.NameEntry.{NameEntry}
-use Rattle.entries.specs.declared.entry.WholeEntry.{WholeEntry}
 use Rattle.entries.specs.declared.entry.EntryAt.{EntryAt}
 use Rattle.reader.specs.Parts.{Section}
 

@@ -1,6 +1,6 @@
 -- The five facts of an entry: document 01, "Entries and attributes". Each is refused as the entry is, and then the first attribute of the
 -- name decides. `s` is the section.
-use Rattle.std.specs.Prelude.{ℕ, List, Option}
+use Rattle.std.specs.Prelude.{ℕ, Option}
 use Rattle.reader.specs.Outcome.{Outcome, ◌>>=◌}
 use Rattle.reader.specs.declared.endianity.RunTimeEndian.{RunTimeEndian}
 use Rattle.reader.specs.declared.common.NameEntryOffset.{NameEntryOffset}

@@ -1,20 +1,12 @@
 -- What only the code needs: what single functions of it answer or leave. A reader of the other files need not know these.
-use Rattle.std.specs.Prelude.{ℕ, ◌-◌, cond, List, eqb}
+use Rattle.std.specs.Prelude.{ℕ}
 use Rattle.std.specs.Prelude.{Option, Some, None}
-use Rattle.reader.specs.declared.error.Error.{Error}
-use Rattle.reader.specs.declared.error.Error.TheVariants.{InvalidAbbreviationCode, NoEntryAtGivenOffset}
-use Rattle.reader.specs.Errors.{number_of, value_of}
-use Rattle.reader.specs.Outcome.{Outcome, answered, refused, ◌>>=◌}
-use Rattle.reader.specs.Parts.{skipped}
-use Rattle.leb128.specs.Leb128.{leb128, unsigned_limit}
+use Rattle.reader.specs.Outcome.{Outcome, answered, ◌>>=◌}
 use Rattle.reader.specs.declared.endianity.RunTimeEndian.{RunTimeEndian}
 use Rattle.reader.specs.declared.common.NameEntryOffset.{NameEntryOffset}
-use Rattle.abbreviations.specs.Abbreviations.{table, find}
 use Rattle.index.specs.declared.layout.NameIndex.{NameIndex}
 use Rattle.index.specs.declared.layout.Parts.{Parts}
-use Rattle.index.specs.Layout.{fitted}
-use Rattle.attributes.specs.Attributes.{NameAttribute, values, facts}
-use Rattle.entries.specs.declared.entry.NameEntry.{NameEntry}
+use Rattle.attributes.specs.Attributes.{facts}
 use Rattle.entries.specs.declared.entry.WholeEntry.{WholeEntry}
 use Rattle.entries.specs.declared.entry.EntryAt.{EntryAt}
 use Rattle.reader.specs.Parts.{Section}

@@ -1,7 +1,7 @@
 -- The series of a name, and the steps over it: document 01, "Entries and attributes" and the words of demand 3. `s` is the section.
-use Rattle.std.specs.Prelude.{ℕ, ◌-◌, cond, List, ltb, eqb}
+use Rattle.std.specs.Prelude.{ℕ, ◌-◌, cond, ltb, eqb}
 use Rattle.std.specs.Prelude.{Option, Some, None}
-use Rattle.reader.specs.Outcome.{Outcome, answered, refused, ◌>>=◌, ◌>>◌, refuse_if}
+use Rattle.reader.specs.Outcome.{Outcome, answered, refused, ◌>>=◌, ◌>>◌}
 use Rattle.reader.specs.Parts.{part_end, left_at, skipped}
 use Rattle.reader.specs.Listing.{Listing, listing, or_broken}
 use Rattle.reader.specs.Steps.{Step, keeping}

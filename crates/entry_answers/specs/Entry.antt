@@ -1,19 +1,14 @@
 -- Entries and their five facts, as they are handed over: document 01, "Entries and attributes". `s` is the section.
-use Rattle.std.specs.Prelude.{ℕ, List}
+use Rattle.std.specs.Prelude.{ℕ}
 use Rattle.std.specs.Prelude.{Option, Some, None}
 use Rattle.reader.specs.Outcome.{Outcome, answered, refused}
-use Rattle.reader.specs.Steps.{Step}
 use Rattle.reader.specs.declared.endianity.RunTimeEndian.{RunTimeEndian}
 use Rattle.reader.specs.declared.common.NameEntryOffset.{NameEntryOffset}
 use Rattle.index.specs.declared.layout.NameIndex.{NameIndex}
 use Rattle.attributes.specs.declared.attribute.EntryParent.{EntryParent}
-use Rattle.attributes.specs.declared.facts.Facts.{Facts}
-use Rattle.attributes.specs.Meaning.{compile_unit_of, type_unit_of, die_offset_of, parent_of, type_hash_of}
 use Rattle.entries.specs.declared.entry.NameEntry.{NameEntry}
-use Rattle.entries.specs.declared.entry.WholeEntry.{WholeEntry}
 use Rattle.entries.specs.declared.series.NameEntryIter.{NameEntryIter}
-use Rattle.entries.specs.Entries.{name_entry_handed, less_whole}
-use Rattle.entries.specs.declared.entry.EntryAt.{EntryAt}
+use Rattle.entries.specs.Entries.{name_entry_handed}
 use Rattle.entries.specs.Series.{entry_step}
 use Rattle.entries.specs.Facts.{entry_compile_unit, entry_type_unit, entry_die_offset, entry_parent, entry_type_hash}
 use Rattle.answers.specs.declared.Answer.{Answer}

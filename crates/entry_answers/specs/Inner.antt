@@ -1,28 +1,20 @@
 -- What only the code needs: what single functions of it answer or leave. A reader of the other files need not know these.
-use Rattle.std.specs.Prelude.{ℕ, List}
+use Rattle.std.specs.Prelude.{ℕ}
 use Rattle.std.specs.Prelude.{Option, Some, None}
 use Rattle.reader.specs.Outcome.{Outcome, answered, refused}
 use Rattle.reader.specs.Steps.{Step}
 use Rattle.reader.specs.declared.endianity.RunTimeEndian.{RunTimeEndian}
 use Rattle.reader.specs.declared.common.NameEntryOffset.{NameEntryOffset}
 use Rattle.index.specs.declared.layout.NameIndex.{NameIndex}
-use Rattle.attributes.specs.declared.attribute.EntryParent.{EntryParent}
 use Rattle.attributes.specs.declared.facts.Facts.{Facts}
 use Rattle.attributes.specs.Meaning.{compile_unit_of, type_unit_of, die_offset_of, parent_of, type_hash_of}
-use Rattle.entries.specs.declared.entry.NameEntry.{NameEntry}
 use Rattle.entries.specs.declared.entry.WholeEntry.{WholeEntry}
 use Rattle.entries.specs.declared.series.NameEntryIter.{NameEntryIter}
-use Rattle.entries.specs.Entries.{name_entry_handed, less_whole}
+use Rattle.entries.specs.Entries.{less_whole}
 use Rattle.entries.specs.declared.entry.EntryAt.{EntryAt}
-use Rattle.entries.specs.Series.{entry_step}
-use Rattle.entries.specs.Facts.{entry_compile_unit, entry_type_unit, entry_die_offset, entry_parent, entry_type_hash}
-use Rattle.answers.specs.declared.Answer.{Answer}
 use Rattle.entry_answers.specs.declared.EntryFacts.{EntryFacts}
 use Rattle.entry_answers.specs.declared.EntryAnswer.{EntryAnswer}
-use Rattle.answers.specs.Answers.{given, nothing, refused_answer, handed, type_unit_answer}
-use Rattle.names.specs.declared.units.NameTypeUnit.{NameTypeUnit}
-use Rattle.reader.specs.declared.common.DebugInfoOffset.{DebugInfoOffset}
-use Rattle.reader.specs.declared.common.UnitOffset.{UnitOffset}
+use Rattle.answers.specs.Answers.{handed}
 use Rattle.reader.specs.Parts.{Section}
 use Rattle.entry_answers.specs.Entry.{compile_unit_fact, die_offset_fact, ended_series, parent_fact, refused_entry, shown_entry, type_hash_fact, type_unit_fact}
 

@@ -1,7 +1,7 @@
 -- The twelve forms that an attribute of an entry may have: document 01, "Entries and attributes"; DWARF 5, section 7.5. `s` is the
 -- section, and the value is read at the place `at` of its part up to `end`.
-use Rattle.std.specs.Prelude.{ℕ, true, cond, not, List, eqb}
-use Rattle.reader.specs.Outcome.{Outcome, answered, refused, ◌>>=◌}
+use Rattle.std.specs.Prelude.{ℕ, true, cond, not, eqb}
+use Rattle.reader.specs.Outcome.{Outcome, answered, ◌>>=◌}
 use Rattle.reader.specs.Numbers.{read_byte, read_number}
 use Rattle.reader.specs.declared.reader.Read.{Read}
 use Rattle.leb128.specs.Leb128.{leb128, unsigned_limit}

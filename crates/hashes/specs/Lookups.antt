@@ -1,6 +1,6 @@
 -- The lookups of a hash table, and their steps: document 01, "Buckets and hashes". `s` is the section.
 use Rattle.std.specs.Prelude.{ℕ, ◌+◌, ◌-◌, ◌*◌, cond, List, [], ◌∷◌, length, leb, eqb, Option, Some, None, option_map}
-use Rattle.reader.specs.Outcome.{Outcome, answered, ◌>>=◌, ◌>>◌, refuse_if}
+use Rattle.reader.specs.Outcome.{Outcome, answered, ◌>>=◌, ◌>>◌}
 use Rattle.reader.specs.Parts.{skipped}
 use Rattle.reader.specs.Numbers.{read_number}
 use Rattle.reader.specs.Steps.{Step, keeping}

@@ -3,7 +3,7 @@ use Prim.Native.Nat.{ℕ, zero, suc, ◌+◌, ◌-◌, ◌/◌, ◌%◌, ◌≤�
 use mathlib.Core.Path.{subst, ◌≡◌, refl, sym, ap, ◌∙◌}
 use mathlib.Core.Bool.{Bool, true, false, cond}
 use mathlib.Core.Logic.{◌⊎◌, inl, inr}
-use mathlib.Core.List.{List, [], ◌∷◌, map}
+use mathlib.Core.List.{List, [], ◌∷◌}
 use Rattle.std.specs.Prelude.{Option, Some, None}
 use Rattle.reader.proofs.OutcomeLaws.{none-ne-some, some-injective}
 use native.Mathlib.Omega.{arith}
@@ -16,7 +16,7 @@ use Rattle.reader.specs.Errors.{longest}
 use Rattle.reader.specs.Parts.{part_end, skipped, cut}
 use Rattle.reader.specs.Numbers.{read_number, initial_length}
 use Rattle.reader.specs.declared.reader.Read.{Read}
-use Rattle.reader.specs.Steps.{Step, keeping, step_of, Taken, no_steps, step_then, answers, has_end}
+use Rattle.reader.specs.Steps.{Step, keeping, step_of, no_steps, step_then, answers, has_end}
 use Rattle.reader.specs.Answers.{outcome}
 use Rattle.reader.specs.Listing.{Advances}
 use Rattle.reader.proofs.ListingLaws.{listing_step}

@@ -1,6 +1,6 @@
 -- The header of an index: document 01, "Headers and layout"; DWARF 5, section 6.1.1.4.1, a line a field. `s` is the section.
 use Rattle.std.specs.Prelude.{ℕ, ◌%◌, cond, List, length, eqb, Option, Some, None}
-use Rattle.reader.specs.Outcome.{Outcome, answered, ◌>>=◌, ◌>>◌, demand}
+use Rattle.reader.specs.Outcome.{Outcome, answered, ◌>>=◌, ◌>>◌}
 use Rattle.reader.specs.Parts.{skipped, cut}
 use Rattle.reader.specs.Numbers.{read_number, initial_length}
 use Rattle.reader.specs.declared.reader.Read.{Read}

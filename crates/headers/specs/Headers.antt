@@ -1,6 +1,6 @@
 -- The headers of a section, one after another: document 01, `NameIndexHeaderIter::next`.
 use Rattle.std.specs.Prelude.{ℕ, ◌-◌, cond, List, length, ltb, leb, eqb, Option, Some, None}
-use Rattle.reader.specs.Outcome.{Outcome, answered, refused, ◌>>=◌, ◌>>◌, refuse_if}
+use Rattle.reader.specs.Outcome.{Outcome, answered, refused, ◌>>=◌, ◌>>◌}
 use Rattle.reader.specs.declared.error.Error.TheVariants.{DoesNotFit, SectionTooLong}
 use Rattle.reader.specs.Errors.{longest, fail_if}
 use Rattle.reader.specs.Steps.{Step, keeping}

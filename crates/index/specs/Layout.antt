@@ -1,6 +1,6 @@
 -- Where the parts of an index lie: document 01, "Headers and layout"; DWARF 5, section 6.1.1.4. `s` is the section.
 use Rattle.std.specs.Prelude.{ℕ, ◌+◌, ◌*◌, ◌≤◌, cond, List, [], ◌∷◌, length, get_or, ltb, eqb}
-use Rattle.reader.specs.Outcome.{Outcome, answered, ◌>>◌, refuse_if}
+use Rattle.reader.specs.Outcome.{Outcome, answered, ◌>>◌}
 use Rattle.reader.specs.declared.error.Error.TheVariants.{DoesNotFit, SectionTooLong}
 use Rattle.reader.specs.Errors.{longest, fail_if}
 use Rattle.reader.specs.Numbers.{word_size}

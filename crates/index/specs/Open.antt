@@ -1,6 +1,6 @@
 -- An index from a header: document 01, `NameIndex::new`. `s` is the section.
 use Rattle.std.specs.Prelude.{ℕ, cond, List, [], ◌∷◌, length, ltb}
-use Rattle.reader.specs.Outcome.{Outcome, answered, refused, ◌>>=◌, ◌>>◌, refuse_if}
+use Rattle.reader.specs.Outcome.{Outcome, answered, ◌>>=◌, ◌>>◌}
 use Rattle.reader.specs.declared.error.Error.TheVariants.{DoesNotFit, SectionTooLong, UnexpectedEof}
 use Rattle.reader.specs.Errors.{longest, fail_if, refusal}
 use Rattle.reader.specs.Parts.{skipped}

@@ -1,7 +1,7 @@
 -- What only the code needs: what its steps leave of the records of an index. A reader of the other files need not know these. `s` is .debug_names and
 -- `strs` is .debug_str; `text` has the bytes of the name that is asked for, and `offset` is the place of the index in the section.
 use Rattle.std.specs.Prelude.{ℕ, List}
-use Rattle.reader.specs.Listing.{Listing, ended, broken, item, or_broken, followed_by, shown_by}
+use Rattle.reader.specs.Listing.{Listing, or_broken, followed_by, shown_by}
 use Rattle.reader.specs.declared.endianity.RunTimeEndian.{RunTimeEndian}
 use Rattle.index.specs.declared.layout.NameIndex.{NameIndex}
 use Rattle.index.specs.declared.layout.Parts.{Parts}
@@ -9,9 +9,9 @@ use Rattle.index.specs.Layout.{fitted}
 use Rattle.entries.specs.Series.{entries_from}
 use Rattle.records.specs.declared.record.Record.{Record}
 use Rattle.index_query.specs.declared.series.IndexIter.{IndexIter}
-use Rattle.index_query.specs.Candidates.{candidates, candidates_at}
+use Rattle.index_query.specs.Candidates.{candidates_at}
 use Rattle.index_query.specs.Matching.{name_matches, matching}
-use Rattle.index_query.specs.Series.{record_of_entry, series_records}
+use Rattle.index_query.specs.Series.{record_of_entry}
 use Rattle.reader.specs.Parts.{Section}
 use Rattle.index_query.specs.Records.{all_series}
 

@@ -1,17 +1,13 @@
 -- The records of an index: document 01, "The section query". `s` is .debug_names and `strs` is .debug_str; `text` has the bytes of the name
 -- that is asked for, and `offset` is the place of the index in the section.
 use Rattle.std.specs.Prelude.{ℕ, List}
-use Rattle.reader.specs.Listing.{Listing, ended, broken, item, or_broken, followed_by, shown_by}
+use Rattle.reader.specs.Listing.{Listing, ended, broken, item, or_broken, followed_by}
 use Rattle.reader.specs.declared.endianity.RunTimeEndian.{RunTimeEndian}
 use Rattle.index.specs.declared.layout.NameIndex.{NameIndex}
-use Rattle.index.specs.declared.layout.Parts.{Parts}
-use Rattle.index.specs.Layout.{fitted}
-use Rattle.entries.specs.Series.{entries_from}
 use Rattle.records.specs.declared.record.Record.{Record}
-use Rattle.index_query.specs.declared.series.IndexIter.{IndexIter}
-use Rattle.index_query.specs.Candidates.{candidates, candidates_at}
+use Rattle.index_query.specs.Candidates.{candidates}
 use Rattle.index_query.specs.Matching.{name_matches, matching}
-use Rattle.index_query.specs.Series.{record_of_entry, series_records}
+use Rattle.index_query.specs.Series.{series_records}
 use Rattle.reader.specs.Parts.{Section}
 
 -- a section, in its byte order

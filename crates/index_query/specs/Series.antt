@@ -1,5 +1,5 @@
 -- The records of the series of a name: document 01, "The section query". `s` is the section, and `offset` is the place of the index in it.
-use Rattle.std.specs.Prelude.{ℕ, List}
+use Rattle.std.specs.Prelude.{ℕ}
 use Rattle.reader.specs.Outcome.{Outcome}
 use Rattle.reader.specs.Listing.{Listing, shown_by}
 use Rattle.reader.specs.declared.endianity.RunTimeEndian.{RunTimeEndian}

@@ -3,7 +3,7 @@
 -- library's `leb` tests "at most" and has nothing to do with LEB128.)
 use Rattle.std.specs.Prelude.{ℕ, zero, suc, ◌+◌, ◌*◌, ◌^◌, ◌%◌, ◌/◌, List, [], ◌∷◌, ◌++◌, map, Bool, false, cond, ◌||◌, length, replicate, leb, ltb}
 use Rattle.std.proofs.Math.Seq.{slice}
-use Rattle.reader.specs.Outcome.{Outcome, answered, ◌>>=◌, ◌>>◌, demand, refuse_if}
+use Rattle.reader.specs.Outcome.{Outcome, answered, ◌>>=◌, ◌>>◌}
 use Rattle.reader.specs.declared.reader.Read.{Read}
 use Rattle.reader.specs.Errors.{fail_if, require}
 use Rattle.reader.specs.declared.error.Error.TheVariants.{BadUnsignedLeb128, UnexpectedEof}

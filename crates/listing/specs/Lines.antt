@@ -1,7 +1,7 @@
 -- The lines of a section, and the steps over them: document 01, "Bytes to try". `s` is the section.
 use Rattle.std.specs.Prelude.{ℕ, ◌+◌, true, false, cond, List, [], ◌∷◌, length, ltb, leb}
 use Rattle.std.specs.Prelude.{Option, Some, None}
-use Rattle.reader.specs.Outcome.{Outcome, answered, refused, refuse_if}
+use Rattle.reader.specs.Outcome.{Outcome, answered, refused}
 use Rattle.reader.specs.declared.error.Error.TheVariants.{DoesNotFit, SectionTooLong}
 use Rattle.reader.specs.Errors.{longest, fail_if}
 use Rattle.reader.specs.Steps.{Step}

@@ -1,5 +1,5 @@
 -- The line of a name: document 01, "name number, stored hash, string offset, entries in its series". `s` is the section.
-use Rattle.std.specs.Prelude.{ℕ, ◌*◌, cond, List, eqb, Option, Some, None}
+use Rattle.std.specs.Prelude.{ℕ, ◌*◌, cond, eqb, Option, Some, None}
 use Rattle.reader.specs.Outcome.{Outcome, answered, ◌>>=◌}
 use Rattle.reader.specs.Parts.{skipped}
 use Rattle.reader.specs.Numbers.{read_number}

@@ -2,7 +2,7 @@
 -- is .debug_str.
 use Rattle.std.specs.Prelude.{ℕ, ◌+◌, cond, List, length, ltb, leb}
 use Rattle.std.specs.Prelude.{Some, None}
-use Rattle.reader.specs.Outcome.{Outcome, answered, ◌>>=◌, ◌>>◌, refuse_if}
+use Rattle.reader.specs.Outcome.{Outcome, answered, ◌>>=◌, ◌>>◌}
 use Rattle.reader.specs.declared.error.Error.TheVariants.{SectionTooLong}
 use Rattle.reader.specs.Errors.{longest, fail_if}
 use Rattle.strings.specs.Strings.{get_str, text_bytes}

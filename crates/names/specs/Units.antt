@@ -1,5 +1,5 @@
 -- The units of an index: document 01, "Headers and layout". `s` is the section.
-use Rattle.std.specs.Prelude.{ℕ, ◌-◌, ◌*◌, cond, List, ltb, eqb, Option, Some, None}
+use Rattle.std.specs.Prelude.{ℕ, ◌-◌, ◌*◌, cond, ltb, eqb, Option, Some, None}
 use Rattle.reader.specs.Outcome.{Outcome, answered, ◌>>=◌, ◌>>◌}
 use Rattle.reader.specs.Parts.{skipped}
 use Rattle.reader.specs.Numbers.{read_number, word_size}

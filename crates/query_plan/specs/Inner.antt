@@ -1,7 +1,6 @@
 -- What only the code needs: what single functions of it answer or leave. A reader of the other files need not know these.
-use Rattle.std.specs.Prelude.{ℕ, List, [], ◌++◌, take, None, option_to_list, Result}
-use Rattle.reader.specs.Outcome.{Outcome, answered, refused}
-use Rattle.reader.specs.Listing.{Listing, items_of, counted}
+use Rattle.std.specs.Prelude.{ℕ, List, ◌++◌, take, None, option_to_list, Result}
+use Rattle.reader.specs.Listing.{items_of}
 use Rattle.reader.specs.declared.error.Error.{Error}
 use Rattle.reader.specs.declared.endianity.RunTimeEndian.{RunTimeEndian}
 use Rattle.records.specs.declared.record.Record.{Record}

@@ -1,16 +1,9 @@
 -- What a query answers, and what there is to write: document 01, "The section query". `s` is .debug_names and `strs` is .debug_str; `text` has
 -- the bytes of the name that is asked for.
-use Rattle.std.specs.Prelude.{ℕ, List, [], ◌++◌, take, None, option_to_list, Result}
+use Rattle.std.specs.Prelude.{ℕ, List, []}
 use Rattle.reader.specs.Outcome.{Outcome, answered, refused}
 use Rattle.reader.specs.Listing.{Listing, items_of, counted}
-use Rattle.reader.specs.declared.error.Error.{Error}
-use Rattle.reader.specs.declared.endianity.RunTimeEndian.{RunTimeEndian}
 use Rattle.records.specs.declared.record.Record.{Record}
-use Rattle.section_records.specs.Records.{section_records}
-use Rattle.section_records.specs.Inner.{query_left, first_record}
-use Rattle.query_plan.specs.declared.Writing.{Writing}
-use Rattle.query_plan.specs.declared.Plan.{Plan}
-use Rattle.reader.specs.Parts.{Section}
 
 -- what a query answers, its total or the refusal, and records: here those to write; of `query` those that it was lent, as they are at exit
 pub record Queried : Type 0 where

@@ -1,7 +1,7 @@
 -- Numbers of a fixed width in either byte order, words, and the initial length: document 01, "Bytes and numbers"; DWARF 5, 7.4.
 use Rattle.std.specs.Prelude.{ℕ, zero, suc, ◌+◌, ◌*◌, ◌%◌, ◌/◌, ◌<◌, List, [], ◌∷◌, reverse, cond, take, drop, ltb, eqb}
 use Rattle.std.proofs.Math.Seq.{slice}
-use Rattle.reader.specs.Outcome.{Outcome, answered, refused, ◌>>=◌}
+use Rattle.reader.specs.Outcome.{Outcome, answered, ◌>>=◌}
 use Rattle.reader.specs.Parts.{skipped}
 use Rattle.reader.specs.declared.reader.Read.{Read}
 use Rattle.reader.specs.declared.reader.InitialLength.{InitialLength}

@@ -2,7 +2,7 @@
 -- by the place `end` where it ends; past the section's end there are no bytes. `slice at end s` of the library is the list of
 -- the part's bytes from the place `at` on. Any numbers are legal places: where `at` lies past the end, the list is empty.
 use Rattle.std.specs.Prelude.{ℕ, ◌+◌, ◌-◌, ◌<◌, ◌≤◌, min, List, cond, length, leb}
-use Rattle.reader.specs.Outcome.{Outcome, answered, refused, ◌>>=◌}
+use Rattle.reader.specs.Outcome.{Outcome, answered, ◌>>=◌}
 use Rattle.reader.specs.declared.reader.Part.{Part}
 use Rattle.reader.specs.Errors.{refusal}
 use Rattle.reader.specs.declared.error.Error.TheVariants.{UnexpectedEof}

@@ -1,6 +1,6 @@
 -- The unit that is shown of an entry: document 01, "The section query", with document 02, No. 5. `s` is the section, and `f` has the first
 -- attribute of each name.
-use Rattle.std.specs.Prelude.{ℕ, List}
+use Rattle.std.specs.Prelude.{ℕ}
 use Rattle.std.specs.Prelude.{Option, Some, None}
 use Rattle.reader.specs.Outcome.{Outcome, answered, refused, ◌>>=◌}
 use Rattle.reader.specs.declared.endianity.RunTimeEndian.{RunTimeEndian}

@@ -1,16 +1,9 @@
 -- What only the code needs: what single functions of it answer or leave. A reader of the other files need not know these.
-use Rattle.std.specs.Prelude.{ℕ, List, length, ltb}
-use Rattle.reader.specs.Outcome.{refuse_if}
-use Rattle.reader.specs.declared.error.Error.TheVariants.{SectionTooLong}
-use Rattle.reader.specs.Errors.{longest, fail_if}
-use Rattle.reader.specs.Listing.{Listing, ended, broken, item, or_broken, followed_by}
+use Rattle.std.specs.Prelude.{ℕ, List}
+use Rattle.reader.specs.Listing.{Listing, followed_by}
 use Rattle.reader.specs.declared.endianity.RunTimeEndian.{RunTimeEndian}
-use Rattle.headers.specs.declared.header.NameIndexHeader.{NameIndexHeader}
-use Rattle.headers.specs.Headers.{headers_from}
 use Rattle.index.specs.Layout.{no_index}
-use Rattle.index.specs.Open.{name_index}
 use Rattle.records.specs.declared.record.Record.{Record}
-use Rattle.index_query.specs.Records.{index_records}
 use Rattle.index_query.specs.Inner.{index_left}
 use Rattle.section_records.specs.declared.QueryIter.{QueryIter}
 use Rattle.reader.specs.Parts.{Section}

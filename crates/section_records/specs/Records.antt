@@ -1,19 +1,15 @@
 -- The records of a section: document 01, "The section query". `s` is .debug_names and `strs` is .debug_str; `text` has the bytes of the name
 -- that is asked for.
 use Rattle.std.specs.Prelude.{ℕ, List, length, ltb}
-use Rattle.reader.specs.Outcome.{refuse_if}
 use Rattle.reader.specs.declared.error.Error.TheVariants.{SectionTooLong}
 use Rattle.reader.specs.Errors.{longest, fail_if}
 use Rattle.reader.specs.Listing.{Listing, ended, broken, item, or_broken, followed_by}
 use Rattle.reader.specs.declared.endianity.RunTimeEndian.{RunTimeEndian}
 use Rattle.headers.specs.declared.header.NameIndexHeader.{NameIndexHeader}
 use Rattle.headers.specs.Headers.{headers_from}
-use Rattle.index.specs.Layout.{no_index}
 use Rattle.index.specs.Open.{name_index}
 use Rattle.records.specs.declared.record.Record.{Record}
 use Rattle.index_query.specs.Records.{index_records}
-use Rattle.index_query.specs.Inner.{index_left}
-use Rattle.section_records.specs.declared.QueryIter.{QueryIter}
 use Rattle.reader.specs.Parts.{Section}
 
 -- the records of these headers, in order: each index is opened and finished before the next

@@ -1,6 +1,6 @@
 -- .debug_str: document 01, "Strings".
 use Rattle.std.specs.Prelude.{ℕ, ◌+◌, List, [], ◌∷◌, cond, length, take, drop, ltb, eqb}
-use Rattle.reader.specs.Outcome.{Outcome, answered, refused, ◌>>=◌, ◌>>◌, demand, refuse_if}
+use Rattle.reader.specs.Outcome.{Outcome, answered, refused, ◌>>=◌, ◌>>◌}
 use Rattle.reader.specs.declared.error.Error.TheVariants.{SectionTooLong, UnexpectedEof}
 use Rattle.reader.specs.Errors.{longest, fail_if, require}
 use Rattle.reader.specs.Parts.{skipped}

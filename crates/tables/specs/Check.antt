@@ -1,7 +1,7 @@
 -- The table check: document 01, "Buckets and hashes"; document 02, No. 2. `s` is the section, N the number of names and B that of buckets. Names are
 -- counted from 0, as in gimli; DWARF 5 counts them from 1, and so does the start that is stored for a bucket.
 use Rattle.std.specs.Prelude.{ℕ, ◌+◌, Bool, not, cond, List, [], ◌∷◌, length, ltb, eqb}
-use Rattle.reader.specs.Outcome.{Outcome, answered, ◌>>=◌, ◌>>◌, refuse_if}
+use Rattle.reader.specs.Outcome.{Outcome, answered, ◌>>=◌, ◌>>◌}
 use Rattle.reader.specs.declared.endianity.RunTimeEndian.{RunTimeEndian}
 use Rattle.index.specs.declared.layout.NameIndex.{NameIndex}
 use Rattle.index.specs.Layout.{parts, fitted}

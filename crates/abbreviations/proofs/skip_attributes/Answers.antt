@@ -1,6 +1,6 @@
 -- A short pair takes two bytes of the part (`short_place`): at 0 the pairs end there, and else they go on (`pairs_last`, `pairs_on`); any other pair is the first of
 -- the pairs from its place on (`attributes_end_step`), and takes a byte.
-use borrow.Author.Tests.{eq-eqb, ne_eqb}
+use borrow.Author.Tests.{ne_eqb}
 use native.Mathlib.Omega.{arith}
 use mathlib.Core.Path.{sym, ◌∙◌}
 use Rattle.abbreviations.proofs.AbbreviationLaws.{attributes_end_step, pair_forward, short_place, pairs_on, pairs_last}
