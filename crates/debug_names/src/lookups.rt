@@ -2,11 +2,10 @@
 // (order, section, index) stay parameters, which C hands over one by one.
 ghost use Rattle.std.specs.Prelude.{◌≡◌};
 ghost use Rattle.hashes.specs.Lookups.{find_by_bucket, find_by_hash};
-ghost use Rattle.tables.specs.Check.{table_check};
 ghost use Rattle.handles.specs.Handles.{order_of, index_from};
 ghost use Rattle.answers.specs.Answers.{handed, bucket_answer};
-ghost use Rattle.step_answers.specs.Steps.{hash_answer, table_answer};
-ghost use Rattle.exported.specs.Demand3.{next_in_bucket_call, next_by_hash_call};
+ghost use Rattle.step_answers.specs.Steps.{hash_answer};
+ghost use Rattle.exported.specs.Demand3.{next_in_bucket_call, next_by_hash_call, check_table_call};
 
 use answers::{Answer, bucket_answer};
 use handles::{HashCursor, IndexHandle, order_of};
@@ -88,7 +87,7 @@ pub extern "C" fn debug_names_check_table(
     section: &[u8],
     index: IndexHandle,
 ) -> TableAnswer
-    ensures { result ≡ table_answer (table_check (order_of order) section.now (index_from index)) }
+    ensures { result ≡ check_table_call order section.now index }
 {
     table_answer(check_table(order_of(order), section, NameIndex::from(index)))
 }

@@ -1,10 +1,9 @@
 // Opening a section: its headers one after another, what they say, and the indexes that they describe (document 01, "Headers and layout").
 ghost use Rattle.std.specs.Prelude.{◌≡◌};
 ghost use Rattle.headers.specs.Headers.{header_step};
-ghost use Rattle.index.specs.Open.{name_index};
-ghost use Rattle.handles.specs.Handles.{order_of, index_from, header_for};
-ghost use Rattle.answers.specs.Answers.{handed, open_answer};
-ghost use Rattle.step_answers.specs.Steps.{header_answer, header_facts};
+ghost use Rattle.handles.specs.Handles.{order_of};
+ghost use Rattle.step_answers.specs.Steps.{header_facts};
+ghost use Rattle.exported.specs.Demand3.{next_header_call, open_call};
 
 use answers::{Answer, open_answer};
 use handles::{IndexHandle, header_for, order_of};
@@ -15,7 +14,7 @@ use step_answers::{HeaderAnswer, HeaderFacts, header_answer, header_facts};
 // The next header, from a cursor.
 #[unsafe(no_mangle)]
 pub extern "C" fn debug_names_next_header(order: u32, section: &[u8], at: usize) -> HeaderAnswer
-    ensures { result ≡ header_answer (header_step (order_of order) section.now (record { at = at })) }
+    ensures { result ≡ next_header_call order section.now at }
 {
     header_answer(NameIndexHeaderIter { at }.next(order_of(order), section))
 }
@@ -35,7 +34,7 @@ pub extern "C" fn debug_names_header_at(order: u32, section: &[u8], at: usize) -
 // Opens the index that a header describes.
 #[unsafe(no_mangle)]
 pub extern "C" fn debug_names_open(section: &[u8], index: IndexHandle) -> Answer
-    ensures { result ≡ handed open_answer (name_index section.now (header_for (index_from index))) }
+    ensures { result ≡ open_call section.now index }
 {
     open_answer(NameIndex::new(section, header_for(NameIndex::from(index))))
 }

@@ -1,15 +1,18 @@
--- No refusal of a series has the number 0, which as a status would be an answer: each reading of an entry that refuses has a number of its own.
+-- No refusal of a series, of a header step or of a table check has the number 0, which as a status would be an answer: each reading that refuses has a
+-- number of its own.
 use Prim.Native.Nat.{ℕ, zero, suc, ◌+◌, ◌^◌}
 use mathlib.Core.Path.{◌≡◌, refl}
 use mathlib.Core.Bool.{Bool, true, false, cond}
 use mathlib.Core.List.{List, [], ◌∷◌}
 use lib.ListN.{length}
-use lib.Dec.{leb, eqb}
+use lib.Dec.{leb, ltb, eqb}
 use Rattle.std.proofs.Math.Seq.{slice}
 use Rattle.std.specs.Prelude.{Option, Some, None}
 use Rattle.reader.specs.Outcome.{Outcome, answered, refused, ◌>>=◌, ◌>>◌, demand, refuse_if}
-use Rattle.reader.specs.Parts.{part_end, left_at, skipped}
-use Rattle.reader.specs.Numbers.{read_number, read_byte}
+use Rattle.reader.specs.Parts.{part_end, left_at, skipped, cut}
+use Rattle.reader.specs.Errors.{longest}
+use Rattle.reader.specs.Steps.{keeping}
+use Rattle.reader.specs.Numbers.{read_number, read_byte, initial_length}
 use Rattle.reader.specs.Listing.{listing, listed}
 use Rattle.reader.specs.declared.endianity.RunTimeEndian.{RunTimeEndian}
 use Rattle.reader.specs.declared.reader.Read.{Read}
@@ -18,9 +21,18 @@ use Rattle.abbreviations.specs.declared.Head.{Head}
 use Rattle.abbreviations.specs.Abbreviations.{Attribute, Declaration, pair, attributes_in, attributes, head, with_attributes, declaration, table, find}
 use Rattle.forms.specs.Forms.{as_flag, as_unsigned, as_offset, form_value}
 use Rattle.attributes.specs.Attributes.{values}
+use Rattle.headers.specs.declared.header.NameIndexHeader.{NameIndexHeader}
+use Rattle.headers.specs.declared.header.HeaderCut.{HeaderCut}
+use Rattle.headers.specs.declared.headers.NameIndexHeaderIter.{NameIndexHeaderIter}
+use Rattle.headers.specs.Header.{padding, augmentation, header_cut, counts, header_body, header}
+use Rattle.headers.specs.Headers.{after_header, header_step}
+use Rattle.index.specs.declared.layout.NameIndex.{NameIndex}
 use Rattle.index.specs.declared.layout.Parts.{Parts}
+use Rattle.index.specs.Layout.{parts, fitted}
 use Rattle.entries.specs.Entries.{or_refuse, entry}
 use Rattle.entries.specs.Series.{series_entry}
+use Rattle.hashes.specs.Table.{stored_start}
+use Rattle.tables.specs.Check.{any_above, table_check}
 
 -- an outcome that is answered, or refused with a number other than 0
 abbrev pub Numbered : {A : Type 0} → Outcome A → Type 0
@@ -183,3 +195,84 @@ entry_numbered order s p at =
 pub series_numbered : (order : RunTimeEndian) (s : List ℕ) (p : Parts) (at : ℕ) → Numbered (series_entry order s p at)
 unfolding series_entry
 series_numbered order s p at = cond_numbered (eqb (left_at s at p.end) 0) _ _ tt (entry_numbered order s p at)
+
+-- the headers
+length_numbered : (order : RunTimeEndian) (s : List ℕ) (at end : ℕ) → Numbered (initial_length order s at end)
+unfolding initial_length
+length_numbered order s at end =
+    bind_numbered (read_number 4 order s at end) _ (read_numbered 4 order s at end) λ first.
+    cond_numbered (ltb first.value 0xfffffff0) _ _ tt
+    (cond_numbered (eqb first.value 0xffffffff) _ _ (bind_numbered (read_number 8 order s first.next end) _ (read_numbered 8 order s first.next end) (λ wide. tt)) refl)
+
+cut_numbered : (n : ℕ) (s : List ℕ) (at end : ℕ) → Numbered (cut n s at end)
+unfolding cut
+cut_numbered n s at end = bind_numbered (skipped n s at end) _ (skip_numbered n s at end) (λ next. tt)
+
+part_numbered : (order : RunTimeEndian) (s : List ℕ) (at : ℕ) → Numbered (header_cut order s at)
+unfolding header_cut
+part_numbered order s at =
+    bind_numbered (initial_length order s at (length s)) _ (length_numbered order s at (length s)) λ l.
+    bind_numbered (cut l.length s l.next (length s)) _ (cut_numbered l.length s l.next (length s)) (λ part. tt)
+
+counts_numbered : (order : RunTimeEndian) (s : List ℕ) (at end : ℕ) → Numbered (counts order s at end)
+unfolding counts
+counts_numbered order s at end =
+    bind_numbered (read_number 4 order s at end) _ (read_numbered 4 order s at end) λ c.
+    bind_numbered (read_number 4 order s c.next end) _ (read_numbered 4 order s c.next end) λ l.
+    bind_numbered (read_number 4 order s l.next end) _ (read_numbered 4 order s l.next end) λ f.
+    bind_numbered (read_number 4 order s f.next end) _ (read_numbered 4 order s f.next end) λ b.
+    bind_numbered (read_number 4 order s b.next end) _ (read_numbered 4 order s b.next end) λ n.
+    bind_numbered (read_number 4 order s n.next end) _ (read_numbered 4 order s n.next end) λ a.
+    bind_numbered (read_number 4 order s a.next end) _ (read_numbered 4 order s a.next end) (λ z. tt)
+
+augmentation_numbered : (size : ℕ) (s : List ℕ) (at end : ℕ) → Numbered (augmentation size s at end)
+unfolding augmentation
+augmentation_numbered size s at end =
+    cond_numbered (eqb size 0) _ _ tt
+    (bind_numbered (cut size s at end) _ (cut_numbered size s at end) λ string.
+    bind_numbered (skipped (padding size) s string.end end) _ (skip_numbered (padding size) s string.end end) (λ next. tt))
+
+body_numbered : (order : RunTimeEndian) (s : List ℕ) (c : HeaderCut) → Numbered (header_body order s c)
+unfolding header_body
+body_numbered order s c =
+    bind_numbered (read_number 2 order s c.body.at c.body.end) _ (read_numbered 2 order s c.body.at c.body.end) λ version.
+    then_numbered (demand (eqb version.value 5) 3 version.value) _ (demand_numbered (eqb version.value 5) 3 version.value refl)
+    (bind_numbered (skipped 2 s version.next c.body.end) _ (skip_numbered 2 s version.next c.body.end) λ padded.
+    bind_numbered (counts order s padded c.body.end) _ (counts_numbered order s padded c.body.end) λ n.
+    bind_numbered (augmentation n.augmentation_string_size s n.next c.body.end) _ (augmentation_numbered n.augmentation_string_size s n.next c.body.end) (λ a. tt))
+
+header_numbered : (order : RunTimeEndian) (s : List ℕ) (at : ℕ) → Numbered (header order s at)
+unfolding header
+header_numbered order s at = bind_numbered (header_cut order s at) _ (part_numbered order s at) (λ c. body_numbered order s c)
+
+pub step_numbered : (order : RunTimeEndian) (s : List ℕ) (c : NameIndexHeaderIter) → Numbered (header_step order s c).answer
+unfolding header_step after_header
+step_numbered order s c = by_tests (ltb longest (length s)) (ltb (length s) c.at) (eqb c.at (length s)) (header order s c.at) (header_numbered order s c.at)
+  where
+    by_tests : (t u v : Bool) (o : Outcome NameIndexHeader) → Numbered o
+        → Numbered (keeping c (do
+          refuse_if t 13 0
+          refuse_if u 14 0
+          answered (cond v (record { answer = answered None; cursor = c }) (after_header s o)))).answer
+    by_tests true u v o here = refl
+    by_tests false true v o here = refl
+    by_tests false false true o here = tt
+    by_tests false false false (answered h) here = tt
+    by_tests false false false (refused n v) here = here
+
+-- the table check
+fitted_numbered : (s : List ℕ) (i : NameIndex) → Numbered (fitted s i)
+unfolding fitted
+fitted_numbered s i =
+    then_numbered (refuse_if (ltb longest (length s)) 13 0) _ (refuse_numbered (ltb longest (length s)) 13 0 refl)
+    (then_numbered (refuse_if (ltb (length s) i.end) 14 0) _ (refuse_numbered (ltb (length s) i.end) 14 0 refl)
+    (then_numbered (refuse_if (ltb i.end (parts i).entry_pool) 14 0) _ (refuse_numbered (ltb i.end (parts i).entry_pool) 14 0 refl) tt))
+
+pub check_numbered : (order : RunTimeEndian) (s : List ℕ) (i : NameIndex) → Numbered (table_check order s i)
+unfolding table_check
+check_numbered order s i =
+    bind_numbered (fitted s i) _ (fitted_numbered s i) λ p.
+    cond_numbered (eqb i.bucket_count 0) _ _ tt
+    (then_numbered (refuse_if (any_above i.name_count (stored_start order s p) i.bucket_count) 1 p.hash_table_data) _
+    (refuse_numbered (any_above i.name_count (stored_start order s p) i.bucket_count) 1 p.hash_table_data refl)
+    tt)

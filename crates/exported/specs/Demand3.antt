@@ -1,14 +1,17 @@
--- Document 01, demand 3, of the exported calls: its first part, each one theorem about lists of steps of any length, in the structs that the steps hand
--- over, and its third, of the query. What the third supposes, that the indexes all open and are complete or have no hash table, is demand 3's own,
--- over the steps of the crates below. The laws `exported-buckets` and `exported-hashes` of proofs/LookupLaws.antt, `exported-entries` of
--- proofs/EntryLaws.antt and `exported_query_finds` of proofs/QueryLaws.antt prove them. Order, index and cursor are the caller's numbers; the contracts
--- of the exported steps are by the definitions below.
-use Rattle.std.specs.Prelude.{ℕ, ◌≡◌, cond, List, [], ◌∷◌, ◌++◌, map, length, take, drop, eqb, Option, Some, None}
+-- Document 01, demand 3, of the exported calls: its first part, each one theorem about lists of steps of any length, in the structs that the steps
+-- hand over, and its third, of the query, twice. `ExportedQueryFinds` supposes that the indexes all open and are complete or have no hash table as
+-- demand 3 does, over the steps of the crates below; `ExportedFinds` supposes it in the structs that the calls over headers and handles give. The
+-- laws `exported-buckets` and `exported-hashes` of proofs/LookupLaws.antt, `exported-entries` of proofs/EntryLaws.antt, and `exported_query_finds`
+-- and `exported_finds` of proofs/QueryLaws.antt prove them. Order, index and cursor are the caller's numbers; the contracts of the exported steps
+-- are by the definitions below.
+use Rattle.std.specs.Prelude.{ℕ, ◌≤◌, ◌≡◌, cond, List, [], ◌∷◌, ◌++◌, map, length, take, drop, eqb, Option, Some, None}
 use Rattle.reader.specs.Outcome.{Outcome, answered, refused}
 use Rattle.reader.specs.Listing.{answers_of}
 use Rattle.reader.specs.Steps.{ListsInOrder}
 use Rattle.reader.specs.declared.common.NameTableIndex.{NameTableIndex}
+use Rattle.headers.specs.Headers.{header_step}
 use Rattle.index.specs.Layout.{parts}
+use Rattle.index.specs.Open.{name_index}
 use Rattle.entries.specs.declared.entry.NameEntry.{NameEntry}
 use Rattle.entries.specs.Entries.{handed as entry_handed}
 use Rattle.entries.specs.Series.{series, name_entries}
@@ -16,14 +19,18 @@ use Rattle.hashes.specs.declared.bucket.BucketName.{BucketName}
 use Rattle.hashes.specs.Table.{run, names_of_hash}
 use Rattle.hashes.specs.Lookups.{bucket_cursor, find_by_bucket, find_by_hash, bucket_step, hash_step}
 use Rattle.hashes.specs.Demand3.{bucket_names, hash_names}
+use Rattle.tables.specs.Check.{table_check}
 use Rattle.records.specs.declared.record.Record.{Record}
 use Rattle.handles.specs.declared.IndexHandle.{IndexHandle}
 use Rattle.handles.specs.declared.HashCursor.{HashCursor}
-use Rattle.handles.specs.Handles.{order_of, index_from, iter_from}
-use Rattle.answers.specs.Answers.{handed, bucket_answer, entries_answer}
+use Rattle.handles.specs.Handles.{order_of, index_from, header_for, iter_from}
+use Rattle.answers.specs.declared.Answer.{Answer}
+use Rattle.answers.specs.Answers.{given, handed, open_answer, bucket_answer, entries_answer}
 use Rattle.step_answers.specs.declared.BucketAnswer.{BucketAnswer}
 use Rattle.step_answers.specs.declared.HashAnswer.{HashAnswer}
-use Rattle.step_answers.specs.Steps.{bucket_step_answer, hash_answer, hash_step_answer}
+use Rattle.step_answers.specs.declared.HeaderAnswer.{HeaderAnswer}
+use Rattle.step_answers.specs.declared.TableAnswer.{TableAnswer}
+use Rattle.step_answers.specs.Steps.{header_answer, bucket_step_answer, hash_answer, hash_step_answer, table_answer}
 use Rattle.entry_answers.specs.declared.EntryAnswer.{EntryAnswer}
 use Rattle.entry_answers.specs.Entry.{entry_step_answer}
 use Rattle.demand3.specs.Expected.{OpenIndex, expected}
@@ -99,4 +106,40 @@ ExportedQueryFinds =
     → (total ≡ length (expected (order_of order) s strs hash text opened))
     × ((new : List Record)
     × (map answered new ≡ take (length lent) (expected (order_of order) s strs hash text opened))
+    × (after ≡ new ++ drop (length new) lent))
+
+-- What the exported calls over a section's headers hand over: `debug_names_next_header` of a place, and of the handle that it gave `debug_names_open`
+-- and `debug_names_check_table`.
+abbrev pub next_header_call : ℕ → List ℕ → ℕ → HeaderAnswer
+next_header_call order s at = header_answer (header_step (order_of order) s (record { at = at }))
+
+abbrev pub open_call : List ℕ → IndexHandle → Answer
+open_call s h = handed open_answer (name_index s (header_for (index_from h)))
+
+abbrev pub check_table_call : ℕ → List ℕ → IndexHandle → TableAnswer
+check_table_call order s h = table_answer (table_check (order_of order) s (index_from h))
+
+-- a header step that gave a header: its handle opens, and the table check of it says that there is no hash table, kind 0, or a complete one, kind 1
+pub record OpensComplete (order : ℕ) (s : List ℕ) (t : HeaderAnswer) : Type 0 where
+  pub header : (t.status ≡ 0) × (t.kind ≡ 1)
+  pub opens : given 1 0 ≡ open_call s t.index
+  pub table : ((check_table_call order s t.index).status ≡ 0) × ((check_table_call order s t.index).kind ≤ 1)
+
+-- the index that a header step tells of: its place and its handle. `expected` looks at no other field of its header.
+abbrev pub index_told : HeaderAnswer → OpenIndex
+index_told t = record { header = record (header_for (index_from t.index)) { offset = record { 0 = t.value } }; index = index_from t.index }
+
+-- The third part with nothing but the structs that the calls give. If a list of `debug_names_next_header`, the first at place 0 and each next at the
+-- `next` of the one before it, is headers whose indexes open and are complete or have no hash table, and then the end, status 0 and kind 0: a
+-- `debug_names_query` that is not refused finds what is expected of these indexes, as `ExportedQueryFinds` says it.
+abbrev pub ExportedFinds : Type 0
+ExportedFinds =
+    (order : ℕ) (s strs : List ℕ) (hash : ℕ) (text : List ℕ) (lent after : List Record) (total : ℕ) (headers : List HeaderAnswer) (end : HeaderAnswer)
+    → LinkedCalls (next_header_call order s) (λ t. t.next) 0 (headers ++ end ∷ [])
+    → Each (OpensComplete order s) headers
+    → (end.status ≡ 0) × (end.kind ≡ 0)
+    → record { answer = record { status = 0; kind = 1; value = total }; records = after } ≡ query_answer (order_of order) s strs hash text lent
+    → (total ≡ length (expected (order_of order) s strs hash text (map index_told headers)))
+    × ((new : List Record)
+    × (map answered new ≡ take (length lent) (expected (order_of order) s strs hash text (map index_told headers)))
     × (after ≡ new ++ drop (length new) lent))

@@ -1,5 +1,5 @@
--- Demand 3 of the exported calls on case A: that what it supposes of the lookups, their steps and the query holds there, and what it says: of
--- the steps in the structs that the calls hand over, of the query with demand 3's own suppositions.
+-- Demand 3 of the exported calls on case A: that what it supposes of the lookups, their steps and the query holds there, and what it says, in the
+-- structs that the calls hand over; of the query with demand 3's own suppositions, too.
 use Rattle.std.specs.Prelude.{ℕ, ◌≡◌, List, [], ◌∷◌, ◌++◌, map, length, take, drop, Option, Some}
 use Rattle.reader.specs.Outcome.{Outcome, answered}
 use Rattle.reader.specs.Listing.{answers_of}
@@ -14,17 +14,20 @@ use Rattle.hashes.specs.Demand3.{bucket_names, hash_names}
 use Rattle.records.specs.declared.record.Record.{Record}
 use Rattle.handles.specs.declared.IndexHandle.{IndexHandle}
 use Rattle.handles.specs.declared.HashCursor.{HashCursor}
-use Rattle.handles.specs.Handles.{order_of, index_from}
+use Rattle.handles.specs.Handles.{order_of, index_from, no_handle}
 use Rattle.answers.specs.declared.Answer.{Answer}
 use Rattle.answers.specs.Answers.{given, nothing, refused_answer, handed, bucket_answer, entries_answer}
+use Rattle.step_answers.specs.declared.HeaderAnswer.{HeaderAnswer}
 use Rattle.step_answers.specs.declared.BucketAnswer.{BucketAnswer}
 use Rattle.step_answers.specs.declared.HashAnswer.{HashAnswer}
 use Rattle.step_answers.specs.Steps.{hash_answer}
 use Rattle.entry_answers.specs.declared.EntryAnswer.{EntryAnswer}
 use Rattle.entry_answers.specs.Entry.{no_facts}
 use Rattle.demand3.specs.Expected.{expected}
+use Rattle.demand3.specs.Demand3.{Each}
 use Rattle.exported.specs.Query.{QueryHanded, query_answer}
 use Rattle.exported.specs.Demand3.{LinkedCalls, next_in_bucket_call, next_by_hash_call, next_entry_call, told_by_bucket, told_by_hash, told_by_entry}
+use Rattle.exported.specs.Demand3.{next_header_call, OpensComplete, index_told}
 use Rattle.p_cases.specs.CaseA.{case_a, second_start, strings_a}
 use Rattle.p_cases.specs.Queries.{function_at, old, de, open_a}
 
@@ -127,6 +130,30 @@ QueryFound =
     × ((new : List Record)
     × (map answered new ≡ take 2 (expected (order_of 0) case_a strings_a 7 de (open_a ∷ [])))
     × (function_at 0 6 1 0 0x20 ∷ old ∷ [] ≡ new ++ drop (length new) (old ∷ old ∷ [])))
+
+-- the header steps: the header at 0, with the handle of its index, and the end; the handle opens, and its table is complete
+abbrev pub headers_of_a : List HeaderAnswer
+headers_of_a = record { status = 0; kind = 1; value = 0; next = 109; index = handle_a } ∷ []
+
+abbrev pub end_of_a : HeaderAnswer
+end_of_a = record { status = 0; kind = 0; value = 0; next = 109; index = no_handle }
+
+abbrev pub HeaderCallsOfA : Type 0
+HeaderCallsOfA = LinkedCalls (next_header_call 0 case_a) (λ t. t.next) 0 (headers_of_a ++ end_of_a ∷ [])
+
+abbrev pub CallsComplete : Type 0
+CallsComplete = Each (OpensComplete 0 case_a) headers_of_a
+
+-- so the same query finds what is expected of the index that they tell of; and that is one record
+abbrev pub CallsFound : Type 0
+CallsFound =
+    (1 ≡ length (expected (order_of 0) case_a strings_a 7 de (map index_told headers_of_a)))
+    × ((new : List Record)
+    × (map answered new ≡ take 2 (expected (order_of 0) case_a strings_a 7 de (map index_told headers_of_a)))
+    × (function_at 0 6 1 0 0x20 ∷ old ∷ [] ≡ new ++ drop (length new) (old ∷ old ∷ [])))
+
+abbrev pub CallsExpected : Type 0
+CallsExpected = expected (order_of 0) case_a strings_a 7 de (map index_told headers_of_a) ≡ answered (function_at 0 6 1 0 0x20) ∷ []
 
 -- with second start 5, past the last name, the same query is refused with 1 at the hashes, and both lent records stay
 abbrev pub QueryRefused : Type 0
