@@ -3,8 +3,8 @@
 use Rattle.std.specs.Prelude.{ℕ, cond, ltb, Option, Some, None}
 use Rattle.reader.specs.Outcome.{Outcome, answered, ◌>>=◌}
 use Rattle.reader.specs.declared.endianity.RunTimeEndian.{RunTimeEndian}
-use Rattle.index.specs.declared.layout.NameIndex.{NameIndex}
-use Rattle.names.specs.Units.{nth_compile_unit, nth_type_unit}
+use Rattle.index.specs.declared.layout.Parts.{Parts}
+use Rattle.names.specs.Units.{compile_unit_in, type_unit_in}
 use Rattle.forms.specs.declared.NameAttributeValue.{NameAttributeValue}
 use Rattle.attributes.specs.declared.attribute.FirstAttribute.{FirstAttribute}
 use Rattle.attributes.specs.declared.attribute.EntryParent.{EntryParent}
@@ -57,26 +57,26 @@ type_hash_of (Some a) = type_hash_in a.form a.value
 
 -- a section, in its byte order
 module _ (order : RunTimeEndian) (s : Section) where
-  -- the unit of that number in the index
-  unfoldable pub numbered_unit : NameIndex → Option ℕ → Outcome (Option DebugInfoOffset)
-  numbered_unit i (Some k) = do
-    unit ← nth_compile_unit order s i k
+  -- the unit of that number in the index whose parts are `p`
+  unfoldable pub numbered_unit : Parts → Option ℕ → Outcome (Option DebugInfoOffset)
+  numbered_unit p (Some k) = do
+    unit ← compile_unit_in order s p k
     answered (Some unit)
-  numbered_unit i None = answered None
+  numbered_unit p None = answered None
 
-  unfoldable pub numbered_type_unit : NameIndex → Option ℕ → Outcome (Option NameTypeUnit)
-  numbered_type_unit i (Some k) = do
-    unit ← nth_type_unit order s i k
+  unfoldable pub numbered_type_unit : Parts → Option ℕ → Outcome (Option NameTypeUnit)
+  numbered_type_unit p (Some k) = do
+    unit ← type_unit_in order s p k
     answered (Some unit)
-  numbered_type_unit i None = answered None
+  numbered_type_unit p None = answered None
 
   -- the compile unit, and the type unit, that the attribute names
-  unfoldable pub compile_unit_of : NameIndex → Option FirstAttribute → Outcome (Option DebugInfoOffset)
-  compile_unit_of i f = do
+  unfoldable pub compile_unit_of : Parts → Option FirstAttribute → Outcome (Option DebugInfoOffset)
+  compile_unit_of p f = do
     number ← unit_number f
-    numbered_unit i number
+    numbered_unit p number
 
-  unfoldable pub type_unit_of : NameIndex → Option FirstAttribute → Outcome (Option NameTypeUnit)
-  type_unit_of i f = do
+  unfoldable pub type_unit_of : Parts → Option FirstAttribute → Outcome (Option NameTypeUnit)
+  type_unit_of p f = do
     number ← unit_number f
-    numbered_type_unit i number
+    numbered_type_unit p number

@@ -1,6 +1,6 @@
 -- Laws of entries: the same in the order of the code, which keeps the first attribute of each name and no list; an entry takes a byte;
 -- its handle is below the pool's length.
-use Prim.Native.Nat.{ℕ, ◌-◌}
+use Prim.Native.Nat.{ℕ, ◌+◌, ◌-◌}
 use mathlib.Core.Path.{◌≡◌, refl, sym, ap, ◌∙◌}
 use mathlib.Core.Bool.{Bool, true, false, cond}
 use mathlib.Core.List.{List}
@@ -14,7 +14,7 @@ use Rattle.reader.specs.declared.reader.Read.{Read}
 use Rattle.leb128.specs.Leb128.{leb128, unsigned_limit}
 use Rattle.reader.specs.declared.endianity.RunTimeEndian.{RunTimeEndian}
 use Rattle.reader.specs.declared.common.NameEntryOffset.{NameEntryOffset}
-use Rattle.reader.proofs.OutcomeLaws.{refused-answered, same_answer, bind_answered}
+use Rattle.reader.proofs.OutcomeLaws.{refused-answered, same_answer, bind_answered, bind_same}
 use Rattle.reader.proofs.PartLaws.{skip_answered}
 use Rattle.leb128.proofs.Leb128Laws.{leb128-forward}
 use Rattle.abbreviations.specs.Abbreviations.{Declaration, handed_out, table, find, found}
@@ -29,7 +29,7 @@ use Rattle.attributes.specs.Inner.{facts_read}
 use Rattle.attributes.proofs.AttributeLaws.{facts_declared, entry_values_onward}
 use Rattle.entries.specs.declared.entry.WholeEntry.{WholeEntry}
 use Rattle.entries.specs.Sanity.{EntriesForward, HandlesBelow}
-use Rattle.entries.specs.Entries.{Entry, or_refuse, entry, name_entry, handed, name_entry_handed}
+use Rattle.entries.specs.Entries.{Entry, or_refuse, entry, entry_at_handle, name_entry, as_name_entry}
 use Rattle.entries.specs.Inner.{whole, whole_of, entry_read, whole_entry}
 use Rattle.abbreviations.specs.declared.NameAbbreviation.{NameAbbreviation}
 
@@ -122,13 +122,12 @@ pub entries_forward : EntriesForward
 entries_forward order s p at e answer = let (offset, forward) = entry-answered order s p at e answer in forward
 
 -- the entry of a handle, in the order of the code
-pub whole_step_lem : (order : RunTimeEndian) (s : List ℕ) (i : NameIndex) (offset : NameEntryOffset) → whole_entry order s i offset ≡ (do
-  p ← fitted s i
+pub whole_read : (order : RunTimeEndian) (s : List ℕ) (p : Parts) (offset : NameEntryOffset) → whole_entry order s p offset ≡ (do
   at ← skipped offset.0 s p.entry_pool p.end
   e ← entry_read order s p at
   or_refuse e 10 offset.0)
-unfolding whole_entry name_entry entry_read
-whole_step_lem order s i offset = by_parts (fitted s i)
+unfolding whole_entry entry_at_handle entry_read
+whole_read order s p offset = by_place (skipped offset.0 s p.entry_pool p.end)
   where
     by_entry : (o : Outcome (Option Entry))
         → ((o >>= λ e. or_refuse e 10 offset.0) >>= λ e. answered (whole e)) ≡ ((o >>= λ e. answered (whole_of e)) >>= λ e. or_refuse e 10 offset.0)
@@ -136,59 +135,63 @@ whole_step_lem order s i offset = by_parts (fitted s i)
     by_entry (answered (Some e)) = refl
     by_entry (refused n v) = refl
 
-    by_place : (p : Parts) (o : Outcome ℕ)
+    by_place : (o : Outcome ℕ)
         → ((o >>= λ at. entry order s p at >>= λ e. or_refuse e 10 offset.0) >>= λ e. answered (whole e))
         ≡ (o >>= λ at. (entry order s p at >>= λ e. answered (whole_of e)) >>= λ e. or_refuse e 10 offset.0)
-    by_place p (answered at) = by_entry (entry order s p at)
-    by_place p (refused n v) = refl
-
-    by_parts : (o : Outcome Parts)
-        → ((o >>= λ p. skipped offset.0 s p.entry_pool p.end >>= λ at. entry order s p at >>= λ e. or_refuse e 10 offset.0) >>= λ e. answered (whole e))
-        ≡ (o >>= λ p. skipped offset.0 s p.entry_pool p.end >>= λ at. (entry order s p at >>= λ e. answered (whole_of e)) >>= λ e. or_refuse e 10 offset.0)
-    by_parts (answered p) = by_place p (skipped offset.0 s p.entry_pool p.end)
-    by_parts (refused n v) = refl
+    by_place (answered at) = by_entry (entry order s p at)
+    by_place (refused n v) = refl
 
 -- the pool ends with the index
 pub pool_end : (i : NameIndex) → (parts i).end ≡ i.end
 unfolding parts
 pool_end i = refl
 
-pub handles_below : HandlesBelow
-unfolding name_entry
-handles_below order s i offset e answer =
-    let (p, fits, rest) = bind_answered (fitted s i) _ e answer in
-    let (at, skip, found-there) = bind_answered (skipped offset.0 s p.entry_pool p.end) _ e rest in
+-- an entry that a handle leads to has that handle, and stands inside the pool
+handle_answered : (order : RunTimeEndian) (s : List ℕ) (p : Parts) (offset : NameEntryOffset) (e : Entry) → entry_at_handle order s p offset ≡ answered e
+    → (e.offset ≡ offset.0) × Forward s (p.entry_pool + offset.0) p.end e.next
+unfolding entry_at_handle
+handle_answered order s p offset e answer =
+    let (at, skip, found-there) = bind_answered (skipped offset.0 s p.entry_pool p.end) _ e answer in
     let (o, read, there) = bind_answered (entry order s p at) _ e found-there in
     let (here, place) = skip_answered offset.0 s p.entry_pool p.end at skip in
-    let (short, (pool, ends), parts_are) = fitted-answered s i p fits in
     let (same, (ahead, inside)) = entry-answered order s p at e (read ∙ ap (λ x. answered x) (is_there o there)) in
-    let begins = ap (λ q. q.entry_pool) parts_are in
-    let stops = ap (λ q. q.end) parts_are in
-    (omega arith, omega (arith, begins, stops, pool_end i, ahead, inside))
+    (omega (arith, same, place), (omega (arith, place, ahead), inside))
   where
     is_there : (o : Option Entry) → or_refuse o 10 offset.0 ≡ answered e → o ≡ Some e
     is_there None there = absurd (refused-answered there)
     is_there (Some f) there = ap (λ x. Some x) (same_answer there)
 
+pub handles_below : HandlesBelow
+unfolding name_entry
+handles_below order s i offset e answer =
+    let (p, fits, rest) = bind_answered (fitted s i) _ e answer in
+    let (f, there, shown) = bind_answered (entry_at_handle order s p offset) _ e rest in
+    let (same, (ahead, inside)) = handle_answered order s p offset f there in
+    let (short, (pool, ends), parts_are) = fitted-answered s i p fits in
+    let begins = ap (λ q. q.entry_pool) parts_are in
+    let stops = ap (λ q. q.end) parts_are in
+    (sym (ap (λ e. e.offset) (same_answer shown)) ∙ ap (λ n. record { 0 = n }) same, omega (arith, begins, stops, pool_end i, ahead, inside))
+
 -- `name_entry` in the order of the code: the handle is the one that was given
-pub name_entry_step : (order : RunTimeEndian) (s : List ℕ) (i : NameIndex) (offset : NameEntryOffset) → name_entry_handed order s i offset ≡ (do
-  w ← whole_entry order s i offset
+pub name_entry_read : (order : RunTimeEndian) (s : List ℕ) (i : NameIndex) (offset : NameEntryOffset) → name_entry order s i offset ≡ (do
+  p ← fitted s i
+  w ← whole_entry order s p offset
   answered (record { offset = offset; abbrev_code = w.abbrev_code; tag = w.tag }))
-unfolding name_entry_handed whole_entry
-name_entry_step order s i offset = by_entry (name_entry order s i offset) refl
+unfolding name_entry whole_entry
+name_entry_read order s i offset = bind_same (fitted s i) _ _ λ p fits. by_entry p (entry_at_handle order s p offset) refl
   where
-    by_entry : (o : Outcome Entry) → name_entry order s i offset ≡ o
-        → (o >>= λ e. answered (handed e)) ≡ ((o >>= λ e. answered (whole e)) >>= λ w. answered (record { offset = offset; abbrev_code = w.abbrev_code; tag = w.tag }))
-    by_entry (answered e) read =
-        let (same, below) = handles_below order s i offset e read in
+    by_entry : (p : Parts) (o : Outcome Entry) → entry_at_handle order s p offset ≡ o
+        → (o >>= λ e. answered (as_name_entry e)) ≡ ((o >>= λ e. answered (whole e)) >>= λ w. answered (record { offset = offset; abbrev_code = w.abbrev_code; tag = w.tag }))
+    by_entry p (answered e) there =
+        let (same, forward) = handle_answered order s p offset e there in
         rw same
-    by_entry (refused n v) read = refl
+    by_entry p (refused n v) there = refl
 
 -- a fact of an entry is one of the first attributes that were kept
-pub fact_step : {B : Type 0} (order : RunTimeEndian) (s : List ℕ) (i : NameIndex) (offset : NameEntryOffset) (says : Facts → Outcome B)
-    → (name_entry order s i offset >>= λ e. says (facts e.attributes)) ≡ (whole_entry order s i offset >>= λ w. says w.facts)
+pub fact_step : {B : Type 0} (order : RunTimeEndian) (s : List ℕ) (p : Parts) (offset : NameEntryOffset) (says : Facts → Outcome B)
+    → (entry_at_handle order s p offset >>= λ e. says (facts e.attributes)) ≡ (whole_entry order s p offset >>= λ w. says w.facts)
 unfolding whole_entry
-fact_step {B = B} order s i offset says = by_entry (name_entry order s i offset)
+fact_step {B = B} order s p offset says = by_entry (entry_at_handle order s p offset)
   where
     by_entry : (o : Outcome Entry) → (o >>= λ e. says (facts e.attributes)) ≡ ((o >>= λ e. answered (whole e)) >>= λ w. says w.facts)
     by_entry (answered e) = refl

@@ -24,16 +24,16 @@ use Rattle.index.specs.declared.layout.NameIndex.{NameIndex}
 use Rattle.index.specs.declared.layout.Parts.{Parts}
 use Rattle.index.specs.Layout.{parts, Fits, fitted}
 use Rattle.index.proofs.LayoutLaws.{fitted-answered, fitted-fits}
-use Rattle.names.specs.Units.{nth_word}
+use Rattle.index.specs.Words.{nth_word}
 use Rattle.entries.specs.declared.entry.NameEntry.{NameEntry}
 use Rattle.entries.specs.declared.entry.WholeEntry.{WholeEntry}
 use Rattle.entries.specs.declared.series.NameEntryIter.{NameEntryIter}
 use Rattle.entries.specs.Sanity.{pool_length, SeriesUnfold, SeriesShort, HandlesLead, HandlesTell}
 use Rattle.entries.specs.Demand3.{EntryLookups}
 use Rattle.entries.specs.declared.entry.EntryAt.{EntryAt}
-use Rattle.entries.specs.Entries.{Entry, entry, name_entry, handed, name_entry_handed, less_whole}
-use Rattle.entries.specs.Inner.{told, whole_of, entry_read, whole_entry}
-use Rattle.entries.specs.Series.{series_start, series_entry, entries_from, series, cursor_at, name_entries, moved, step_showing, entry_step, whole_step}
+use Rattle.entries.specs.Entries.{Entry, entry, entry_at_handle, name_entry, as_name_entry}
+use Rattle.entries.specs.Inner.{told, whole_of, less_whole, entry_read, series_read, whole_entry, whole_step}
+use Rattle.entries.specs.Series.{first_entry, series_entry, entries_from, entries_of, series, cursor_at, name_entries, moved, step_in, entry_step}
 use Rattle.entries.proofs.EntryLaws.{entry-offset, entries_forward, pool_end}
 
 -- an entry of a series is one of the pool
@@ -64,29 +64,52 @@ series_step order s p at = listing_step (series_entry order s p) (λ e. e.next) 
 pub series-ended : (order : RunTimeEndian) (s : List ℕ) (p : Parts) → entries_from order s p p.end ≡ ended
 series-ended order s p = series_step order s p p.end ∙ rw (none_there order s p p.end (omega arith))
 
--- what the start of a series says: the index fits, and the place lies in the pool or at its end
-pub start-answered : (order : RunTimeEndian) (s : List ℕ) (i : NameIndex) (name : NameTableIndex) (at : ℕ) → series_start order s i name ≡ answered at
-    → (length s ≤ longest) × Fits s i × ((parts i).entry_pool ≤ at) × (at ≤ (parts i).end)
-unfolding series_start
-start-answered order s i name at e =
-    let (p, fits, rest) = bind_answered (fitted s i) _ at e in
-    let (offset, read, skip) = bind_answered (nth_word i.format order s p.entry_offset_data p.abbreviation_table name.0) _ at rest in
+-- what the first entry's place says: it lies in the pool or at its end
+pub first-inside : (order : RunTimeEndian) (s : List ℕ) (p : Parts) (name : NameTableIndex) (at : ℕ) → first_entry order s p name ≡ answered at
+    → (p.entry_pool ≤ at) × (at ≤ part_end s p.end)
+unfolding first_entry
+first-inside order s p name at e =
+    let (offset, read, skip) = bind_answered (nth_word p.index.format order s p.entry_offset_data p.abbreviation_table name.0) _ at e in
     let (here, place) = skip_answered offset.value s p.entry_pool p.end at skip in
-    let (short, inside, parts_are) = fitted-answered s i p fits in
-    let begins = ap (λ q. q.entry_pool) parts_are in
-    let stops = ap (λ q. q.end) parts_are in
-    (short, inside, omega (arith, begins, place), omega (arith, stops, here, place))
+    (omega arith, omega arith)
+
+-- a series is no longer than its pool
+pub entries-short : (order : RunTimeEndian) (s : List ℕ) (p : Parts) (name : NameTableIndex) → items (entries_of order s p name) ≤ p.end - p.entry_pool
+unfolding entries_of entries_from items
+entries-short order s p name = by_start (first_entry order s p name) refl
+  where
+    by_start : (o : Outcome ℕ) → first_entry order s p name ≡ o → items (or_broken o (entries_from order s p)) ≤ p.end - p.entry_pool
+    by_start (answered at) e =
+        let (above, below) = first-inside order s p name at e in
+        let turns : ℕ = part_end s p.end - at in
+        omega (arith, listing-items (series_entry order s p) (λ e. e.next) turns at, above)
+    by_start (refused n v) e = omega arith
+
+-- the series of a name of an index that fits has the entries of the name
+pub series-fits : (order : RunTimeEndian) (s : List ℕ) (i : NameIndex) (name : NameTableIndex) (p : Parts) → answered p ≡ fitted s i → series order s i name ≡ entries_of order s p name
+unfolding series
+series-fits order s i name p given = rw (sym given)
 
 pub series-short : SeriesShort
-unfolding series entries_from items
-series-short order s i name = by_start (series_start order s i name) refl
+unfolding series items
+series-short order s i name = by_parts (fitted s i) refl
   where
-    by_start : (o : Outcome ℕ) → series_start order s i name ≡ o → items (or_broken o (entries_from order s (parts i))) ≤ pool_length i
-    by_start (answered at) e =
-        let (short, (pool, ends), above, below) = start-answered order s i name at e in
-        let turns : ℕ = part_end s (parts i).end - at in
-        omega (arith, listing-items (series_entry order s (parts i)) (λ e. e.next) turns at, above, pool_end i)
-    by_start (refused n v) e = omega arith
+    by_parts : (o : Outcome Parts) → fitted s i ≡ o → items (or_broken o λ p. entries_of order s p name) ≤ pool_length i
+    by_parts (answered p) e =
+        let (short, fits, parts_are) = fitted-answered s i p e in
+        let begins = ap (λ q. q.entry_pool) parts_are in
+        let stops = ap (λ q. q.end) parts_are in
+        omega (arith, entries-short order s p name, begins, stops, pool_end i)
+    by_parts (refused n v) e = omega arith
+
+-- the entry at a place of a series, in the order of the code
+pub series_read_step : (order : RunTimeEndian) (s : List ℕ) (p : Parts) (at : ℕ) → series_read order s p at ≡ cond (eqb (left_at s at p.end) 0) (answered None) (entry_read order s p at)
+unfolding series_read series_entry entry_read
+series_read_step order s p at = tested (eqb (left_at s at p.end) 0)
+  where
+    tested : (t : Bool) → (cond t (answered None) (entry order s p at) >>= λ e. answered (whole_of e)) ≡ cond t (answered None) (entry order s p at >>= λ e. answered (whole_of e))
+    tested true = refl
+    tested false = refl
 
 -- a step in the order of the code, which keeps the first attribute of each name and no list
 unfoldable pub moved_by : Parts → ℕ → Outcome (Option WholeEntry) → Step EntryAt NameEntryIter
@@ -97,27 +120,21 @@ moved_by p at (answered (Some w)) = record {
 moved_by p at (answered None) = record { answer = answered None; cursor = cursor_at p.end }
 moved_by p at (refused n v) = record { answer = refused n v; cursor = cursor_at p.end }
 
-moved_read : (order : RunTimeEndian) (s : List ℕ) (p : Parts) (at : ℕ) → moved told p (entry order s p at) ≡ moved_by p at (entry_read order s p at)
-unfolding moved moved_by entry_read
-moved_read order s p at = by_entry (entry order s p at) refl
-  where
-    by_entry : (o : Outcome (Option Entry)) → entry order s p at ≡ o → moved told p o ≡ moved_by p at (o >>= λ e. answered (whole_of e))
-    by_entry (answered None) read = refl
-    by_entry (answered (Some e)) read = rw (entry-offset order s p at e read)
-    by_entry (refused n v) read = refl
+-- the offset of an entry of a series, too
+series-offset : (order : RunTimeEndian) (s : List ℕ) (p : Parts) (at : ℕ) (e : Entry) → series_entry order s p at ≡ answered (Some e) → e.offset ≡ at - p.entry_pool
+series-offset order s p at e read = entry-offset order s p at e (series-entry order s p at e read)
 
-pub whole_step_lem : (order : RunTimeEndian) (s : List ℕ) (i : NameIndex) (c : NameEntryIter) → whole_step order s i c ≡ keeping c (do
-  p ← fitted s i
+pub whole_moved : (order : RunTimeEndian) (s : List ℕ) (p : Parts) (c : NameEntryIter) → whole_step order s p c ≡ keeping c (do
   refuse_if (ltb c.at p.entry_pool) 14 0
   refuse_if (ltb p.end c.at) 14 0
-  answered (cond (eqb (left_at s c.at p.end) 0) (record { answer = answered None; cursor = cursor_at p.end }) (moved_by p c.at (entry_read order s p c.at))))
-unfolding whole_step step_showing series_entry moved
-whole_step_lem order s i c = ap (keeping c) (bind_same (fitted s i) _ _ λ p fits. rw (both p (eqb (left_at s c.at p.end) 0)))
+  answered (moved_by p c.at (series_read order s p c.at)))
+unfolding whole_step step_in moved moved_by series_read
+whole_moved order s p c = rw (by_entry (series_entry order s p c.at) refl)
   where
-    both : (p : Parts) (t : Bool)
-        → moved told p (cond t (answered None) (entry order s p c.at)) ≡ cond t (record { answer = answered None; cursor = cursor_at p.end }) (moved_by p c.at (entry_read order s p c.at))
-    both p true = refl
-    both p false = moved_read order s p c.at
+    by_entry : (o : Outcome (Option Entry)) → series_entry order s p c.at ≡ o → moved told p o ≡ moved_by p c.at (o >>= λ e. answered (whole_of e))
+    by_entry (answered None) read = refl
+    by_entry (answered (Some e)) read = rw (series-offset order s p c.at e read)
+    by_entry (refused n v) read = refl
 
 -- the step that shows less: what one pass tells of an entry, without its attributes and the place past it
 abbrev pub less_of : Option EntryAt → Option NameEntry
@@ -127,11 +144,13 @@ less_of (Some t) = Some (less_whole t)
 abbrev pub less : Step EntryAt NameEntryIter → Step NameEntry NameEntryIter
 less t = record { answer = t.answer >>= λ e. answered (less_of e); cursor = t.cursor }
 
-pub entry_step_lem : (order : RunTimeEndian) (s : List ℕ) (i : NameIndex) (c : NameEntryIter) → entry_step order s i c ≡ less (whole_step order s i c)
-unfolding entry_step whole_step step_showing moved
-entry_step_lem order s i c = by_fit (fitted s i)
+pub entry_moved : (order : RunTimeEndian) (s : List ℕ) (i : NameIndex) (c : NameEntryIter) → entry_step order s i c ≡ keeping c (do
+  p ← fitted s i
+  answered (less (whole_step order s p c)))
+unfolding entry_step whole_step step_in moved
+entry_moved order s i c = ap (keeping c) (bind_same (fitted s i) _ _ λ p fits. ap answered (by_tests p (ltb c.at p.entry_pool) (ltb p.end c.at)))
   where
-    by_entry : (p : Parts) (o : Outcome (Option Entry)) → moved handed p o ≡ less (moved told p o)
+    by_entry : (p : Parts) (o : Outcome (Option Entry)) → moved as_name_entry p o ≡ less (moved told p o)
     by_entry p (answered None) = refl
     by_entry p (answered (Some e)) = refl
     by_entry p (refused n v) = refl
@@ -140,7 +159,7 @@ entry_step_lem order s i c = by_fit (fitted s i)
         → keeping c (do
           refuse_if t 14 0
           refuse_if u 14 0
-          answered (moved handed p (series_entry order s p c.at)))
+          answered (moved as_name_entry p (series_entry order s p c.at)))
         ≡ less (keeping c (do
           refuse_if t 14 0
           refuse_if u 14 0
@@ -148,20 +167,6 @@ entry_step_lem order s i c = by_fit (fitted s i)
     by_tests p true u = refl
     by_tests p false true = refl
     by_tests p false false = by_entry p (series_entry order s p c.at)
-
-    by_fit : (o : Outcome Parts)
-        → keeping c (do
-          p ← o
-          refuse_if (ltb c.at p.entry_pool) 14 0
-          refuse_if (ltb p.end c.at) 14 0
-          answered (moved handed p (series_entry order s p c.at)))
-        ≡ less (keeping c (do
-          p ← o
-          refuse_if (ltb c.at p.entry_pool) 14 0
-          refuse_if (ltb p.end c.at) 14 0
-          answered (moved told p (series_entry order s p c.at))))
-    by_fit (answered p) = by_tests p (ltb c.at p.entry_pool) (ltb p.end c.at)
-    by_fit (refused n v) = refl
 
 -- a step that answers an entry passed its tests, and the entry is the one at the cursor's place
 kept-answer : {A : Type 0} (c : NameEntryIter) (o : Outcome (Step A NameEntryIter)) (e : A) → (keeping c o).answer ≡ answered (Some e)
@@ -177,45 +182,52 @@ moved-answer shown p (answered (Some f)) e same = (f, refl, some-injective _ _ (
 moved-answer shown p (refused n v) e same = absurd (refused-answered same)
 
 -- the handle of an entry of the pool leads to that entry
-pool_lead : (order : RunTimeEndian) (s : List ℕ) (i : NameIndex) (p : Parts) (at : ℕ) (f : Entry) → fitted s i ≡ answered p → p.entry_pool ≤ at
-    → entry order s p at ≡ answered (Some f) → name_entry order s i (record { 0 = f.offset }) ≡ answered f
-unfolding name_entry
-pool_lead order s i p at f fits begins there =
+pool_lead : (order : RunTimeEndian) (s : List ℕ) (p : Parts) (at : ℕ) (f : Entry) → p.entry_pool ≤ at → entry order s p at ≡ answered (Some f)
+    → entry_at_handle order s p (record { 0 = f.offset }) ≡ answered f
+unfolding entry_at_handle
+pool_lead order s p at f begins there =
     let offset : f.offset ≡ at - p.entry_pool = entry-offset order s p at f there in
     let (ahead, inside) = entries_forward order s p at f there in
     let place : p.entry_pool + f.offset ≡ at = omega arith in
-    rw (fits, skip_inside f.offset s p.entry_pool p.end (omega arith), place, there) refl
+    rw (skip_inside f.offset s p.entry_pool p.end (omega arith), place, there) refl
 
 -- so does that of an entry that a step shows
-shown_lead : {A : Type 0} (shown : Entry → A) (order : RunTimeEndian) (s : List ℕ) (i : NameIndex) (c : NameEntryIter) (e : A)
-    → (step_showing shown order s i c).answer ≡ answered (Some e)
-    → (f : Entry) × (name_entry order s i (record { 0 = f.offset }) ≡ answered f) × (shown f ≡ e)
-unfolding step_showing
-shown_lead shown order s i c e gave =
+shown_lead : {A : Type 0} (shown : Entry → A) (order : RunTimeEndian) (s : List ℕ) (p : Parts) (c : NameEntryIter) (e : A)
+    → (step_in order s shown p c).answer ≡ answered (Some e)
+    → (f : Entry) × (entry_at_handle order s p (record { 0 = f.offset }) ≡ answered f) × (shown f ≡ e)
+unfolding step_in
+shown_lead shown order s p c e gave =
     let (t, went, same) = kept-answer c _ e gave in
-    let (p, fits, rest) = bind_answered (fitted s i) _ t went in
-    let (u, above, rest₁) = then_answered (refuse_if (ltb c.at p.entry_pool) 14 0) _ t rest in
+    let (u, above, rest₁) = then_answered (refuse_if (ltb c.at p.entry_pool) 14 0) _ t went in
     let (v, below, rest₂) = then_answered (refuse_if (ltb p.end c.at) 14 0) _ t rest₁ in
     let (f, read, this) = moved-answer shown p (series_entry order s p c.at) e (ap (λ t. t.answer) (same_answer rest₂) ∙ same) in
     let begins = ltb-false _ _ (passed _ 14 0 u above) in
-    (f, pool_lead order s i p c.at f fits begins (series-entry order s p c.at f read), this)
+    (f, pool_lead order s p c.at f begins (series-entry order s p c.at f read), this)
+
+-- and the call answers it
+lead_named : (order : RunTimeEndian) (s : List ℕ) (i : NameIndex) (p : Parts) (f : Entry) (e : NameEntry) → fitted s i ≡ answered p
+    → entry_at_handle order s p (record { 0 = f.offset }) ≡ answered f → as_name_entry f ≡ e → name_entry order s i e.offset ≡ answered e
+unfolding name_entry
+lead_named order s i p f e fits there this = rw (sym this, fits, there) refl
 
 pub handles_lead : HandlesLead
-unfolding entry_step name_entry_handed
+unfolding entry_step
 handles_lead order s i c e gave =
-    let (f, there, this) = shown_lead handed order s i c e gave in
-    rw (sym this, there) refl
+    let (t, went, same) = kept-answer c _ e gave in
+    let (p, fits, rest) = bind_answered (fitted s i) _ t went in
+    let (f, there, this) = shown_lead as_name_entry order s p c e (ap (λ t. t.answer) (same_answer rest) ∙ same) in
+    lead_named order s i p f e fits there this
 
 pub handles_tell : HandlesTell
 unfolding whole_step whole_entry
-handles_tell order s i c t gave =
-    let (f, there, this) = shown_lead told order s i c t gave in
+handles_tell order s p c t gave =
+    let (f, there, this) = shown_lead told order s p c t gave in
     rw (sym this, there) refl
 
 -- the step of a cursor that fits
 pub step_fits : (order : RunTimeEndian) (s : List ℕ) (i : NameIndex) (at : ℕ) → length s ≤ longest → Fits s i → (parts i).entry_pool ≤ at → at ≤ (parts i).end
-    → entry_step order s i (cursor_at at) ≡ moved handed (parts i) (series_entry order s (parts i) at)
-unfolding entry_step step_showing
+    → entry_step order s i (cursor_at at) ≡ moved as_name_entry (parts i) (series_entry order s (parts i) at)
+unfolding entry_step step_in
 step_fits order s i at short fits above below = rw (fitted-fits s i short fits, le-ltb at (parts i).entry_pool above, le-ltb (parts i).end at below)
 
 -- Demand 3: a cursor of a lookup stands for the entries from its place on
@@ -224,31 +236,35 @@ module _ (order : RunTimeEndian) (s : List ℕ) (i : NameIndex) (short : length 
   Inside c = ((parts i).entry_pool ≤ c.at) × (c.at ≤ (parts i).end)
 
   abbrev pub left : NameEntryIter → List (Outcome (Option NameEntry))
-  left c = answers_of handed (entries_from order s (parts i) c.at)
+  left c = answers_of as_name_entry (entries_from order s (parts i) c.at)
 
   -- what is left where the reading at the cursor's place is known
   left_read : (c : NameEntryIter) (o : Outcome (Option Entry)) → series_entry order s (parts i) c.at ≡ o
-      → left c ≡ answers_of handed (listed o λ e. entries_from order s (parts i) e.next)
+      → left c ≡ answers_of as_name_entry (listed o λ e. entries_from order s (parts i) e.next)
   left_read c o read = rw (series_step order s (parts i) c.at, read)
 
   pub each : (c : NameEntryIter) → Inside c → Next (entry_step order s i) Inside left c
   unfolding moved answers_of
   each c (above, below) = by_cases (series_entry order s (parts i) c.at) refl (step_fits order s i c.at short fits above below)
     where
-      by_cases : (o : Outcome (Option Entry)) → series_entry order s (parts i) c.at ≡ o → entry_step order s i c ≡ moved handed (parts i) o → Next (entry_step order s i) Inside left c
+      by_cases : (o : Outcome (Option Entry)) → series_entry order s (parts i) c.at ≡ o → entry_step order s i c ≡ moved as_name_entry (parts i) o → Next (entry_step order s i) Inside left c
       by_cases (answered None) read step = at-end (left_read c _ read) (ap (λ t. t.answer) step)
       by_cases (answered (Some e)) read step =
           let (ahead, inside) = entries_forward order s (parts i) c.at e (series-entry order s (parts i) c.at e read) in
-          gives_item (handed e) (rw step (left_read c _ read)) (ap (λ t. t.answer) step) (rw step (omega arith, omega arith))
+          gives_item (as_name_entry e) (rw step (left_read c _ read)) (ap (λ t. t.answer) step) (rw step (omega arith, omega arith))
       by_cases (refused n v) read step =
           let pool : (parts i).entry_pool ≤ (parts i).end = omega arith in
           gives_refusal n v (rw (step, series-ended order s (parts i)) (left_read c _ read)) (ap (λ t. t.answer) step) (rw step (pool, omega arith))
 
 pub entry-lookups : EntryLookups
-unfolding name_entries series
+unfolding name_entries series entries_of
 entry-lookups order s i name c steps given linked =
-    let (at, start, same) = bind_answered (series_start order s i name) _ c (sym given) in
-    let (short, fits, above, below) = start-answered order s i name at start in
+    let (p, fitting, rest) = bind_answered (fitted s i) _ c (sym given) in
+    let (at, start, same) = bind_answered (first_entry order s p name) _ c rest in
+    let (short, fits, parts_are) = fitted-answered s i p fitting in
+    let (above, below) = first-inside order s p name at start in
     let place : c.at ≡ at = ap (λ c. c.at) (sym (same_answer same)) in
-    rw (start, sym place)
-    (steps_list (entry_step order s i) (Inside order s i short fits) (left order s i short fits) (each order s i short fits) steps c (rw place (above, below)) linked)
+    let begins = ap (λ q. q.entry_pool) parts_are in
+    let stops = ap (λ q. q.end) parts_are in
+    rw (fitting, start, sym place, parts_are)
+    (steps_list (entry_step order s i) (Inside order s i short fits) (left order s i short fits) (each order s i short fits) steps c (omega (arith, begins, place, above), omega (arith, stops, place, below)) linked)

@@ -7,7 +7,7 @@ use Rattle.reader.specs.declared.endianity.RunTimeEndian.{RunTimeEndian}
 use Rattle.reader.specs.declared.common.NameTableIndex.{NameTableIndex}
 use Rattle.index.specs.declared.layout.NameIndex.{NameIndex}
 use Rattle.entries.specs.declared.series.NameEntryIter.{NameEntryIter}
-use Rattle.entries.specs.Entries.{handed}
+use Rattle.entries.specs.Entries.{as_name_entry}
 use Rattle.entries.specs.Series.{series, name_entries, entry_step}
 use Rattle.reader.specs.Answers.{outcome}
 use Rattle.entries.specs.declared.entry.NameEntry.{NameEntry}
@@ -21,4 +21,4 @@ EntryLookups =
     (order : RunTimeEndian) (s : List ℕ) (i : NameIndex) (name : NameTableIndex) (c : NameEntryIter) (steps : List (Taken NameEntry NameEntryIter))
     → outcome (Ok c) ≡ name_entries order s i name
     → Linked (entry_step order s i) c steps
-    → ListsInOrder (answers steps) (answers_of handed (series order s i name))
+    → ListsInOrder (answers steps) (answers_of as_name_entry (series order s i name))

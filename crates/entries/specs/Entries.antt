@@ -16,7 +16,6 @@ use Rattle.index.specs.declared.layout.Parts.{Parts}
 use Rattle.index.specs.Layout.{fitted}
 use Rattle.attributes.specs.Attributes.{NameAttribute, values}
 use Rattle.entries.specs.declared.entry.NameEntry.{NameEntry}
-use Rattle.entries.specs.declared.entry.EntryAt.{EntryAt}
 use Rattle.reader.specs.Parts.{Section}
 
 -- an entry: its handle, which is its offset in the pool, its abbreviation code, its tag, its attributes in order, each with name, form
@@ -37,8 +36,8 @@ abbrev pub or_fail : {A : Type 0} → Option A → Error → Outcome A
 or_fail o e = or_refuse o (number_of e) (value_of e)
 
 -- an entry as a call answers it: its handle, its code and its tag
-abbrev pub handed : Entry → NameEntry
-handed e = record { offset = record { 0 = e.offset }; abbrev_code = e.code; tag = e.tag }
+abbrev pub as_name_entry : Entry → NameEntry
+as_name_entry e = record { offset = record { 0 = e.offset }; abbrev_code = e.code; tag = e.tag }
 
 -- a section, in its byte order
 module _ (order : RunTimeEndian) (s : Section) where
@@ -52,20 +51,16 @@ module _ (order : RunTimeEndian) (s : Section) where
       v ← values order s d.attributes code.next p.end
       answered (Some (record { offset = at - p.entry_pool; code = code.value; tag = d.tag; attributes = v.list; next = v.next })))
 
-  -- the entry with that handle: skip so far into the pool, then read; at code 0 it is 10
-  unfoldable pub name_entry : NameIndex → NameEntryOffset → Outcome Entry
-  name_entry i offset = do
-    p ← fitted s i
+  -- the entry with a handle: 10 at code 0
+  unfoldable pub entry_at_handle : Parts → NameEntryOffset → Outcome Entry
+  entry_at_handle p offset = do
     at ← skipped offset.0 s p.entry_pool p.end
     e ← entry p at
     or_fail e (NoEntryAtGivenOffset offset)
 
   -- `name_entry`
-  unfoldable pub name_entry_handed : NameIndex → NameEntryOffset → Outcome NameEntry
-  name_entry_handed i offset = do
-    e ← name_entry i offset
-    answered (handed e)
-
--- the same of what a pass over it tells
-abbrev pub less_whole : EntryAt → NameEntry
-less_whole e = record { offset = e.offset; abbrev_code = e.entry.abbrev_code; tag = e.entry.tag }
+  unfoldable pub name_entry : NameIndex → NameEntryOffset → Outcome NameEntry
+  name_entry i offset = do
+    p ← fitted s i
+    e ← entry_at_handle p offset
+    answered (as_name_entry e)

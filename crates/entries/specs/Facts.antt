@@ -8,7 +8,8 @@ use Rattle.index.specs.declared.layout.NameIndex.{NameIndex}
 use Rattle.attributes.specs.declared.attribute.EntryParent.{EntryParent}
 use Rattle.attributes.specs.Attributes.{first, compile_unit_name, type_unit_name, die_offset_name, parent_name, type_hash_name}
 use Rattle.attributes.specs.Meaning.{compile_unit_of, type_unit_of, die_offset_of, parent_of, type_hash_of}
-use Rattle.entries.specs.Entries.{name_entry}
+use Rattle.entries.specs.Entries.{entry_at_handle}
+use Rattle.index.specs.Layout.{fitted}
 use Rattle.names.specs.declared.units.NameTypeUnit.{NameTypeUnit}
 use Rattle.reader.specs.declared.common.DebugInfoOffset.{DebugInfoOffset}
 use Rattle.reader.specs.declared.common.UnitOffset.{UnitOffset}
@@ -18,25 +19,30 @@ use Rattle.reader.specs.Parts.{Section}
 module _ (order : RunTimeEndian) (s : Section) where
   unfoldable pub entry_compile_unit : NameIndex → NameEntryOffset → Outcome (Option DebugInfoOffset)
   entry_compile_unit i offset = do
-    e ← name_entry order s i offset
-    compile_unit_of order s i (first compile_unit_name e.attributes)
+    p ← fitted s i
+    e ← entry_at_handle order s p offset
+    compile_unit_of order s p (first compile_unit_name e.attributes)
 
   unfoldable pub entry_type_unit : NameIndex → NameEntryOffset → Outcome (Option NameTypeUnit)
   entry_type_unit i offset = do
-    e ← name_entry order s i offset
-    type_unit_of order s i (first type_unit_name e.attributes)
+    p ← fitted s i
+    e ← entry_at_handle order s p offset
+    type_unit_of order s p (first type_unit_name e.attributes)
 
   unfoldable pub entry_die_offset : NameIndex → NameEntryOffset → Outcome (Option UnitOffset)
   entry_die_offset i offset = do
-    e ← name_entry order s i offset
+    p ← fitted s i
+    e ← entry_at_handle order s p offset
     die_offset_of (first die_offset_name e.attributes)
 
   unfoldable pub entry_parent : NameIndex → NameEntryOffset → Outcome EntryParent
   entry_parent i offset = do
-    e ← name_entry order s i offset
+    p ← fitted s i
+    e ← entry_at_handle order s p offset
     parent_of (first parent_name e.attributes)
 
   unfoldable pub entry_type_hash : NameIndex → NameEntryOffset → Outcome (Option ℕ)
   entry_type_hash i offset = do
-    e ← name_entry order s i offset
+    p ← fitted s i
+    e ← entry_at_handle order s p offset
     type_hash_of (first type_hash_name e.attributes)

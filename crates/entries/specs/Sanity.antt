@@ -13,9 +13,9 @@ use Rattle.index.specs.Layout.{parts}
 use Rattle.entries.specs.declared.entry.NameEntry.{NameEntry}
 use Rattle.entries.specs.declared.series.NameEntryIter.{NameEntryIter}
 use Rattle.entries.specs.declared.entry.EntryAt.{EntryAt}
-use Rattle.entries.specs.Entries.{Entry, entry, name_entry, name_entry_handed}
-use Rattle.entries.specs.Inner.{whole_entry}
-use Rattle.entries.specs.Series.{series_entry, entries_from, series, entry_step, whole_step}
+use Rattle.entries.specs.Entries.{Entry, entry, name_entry}
+use Rattle.entries.specs.Inner.{whole_entry, whole_step}
+use Rattle.entries.specs.Series.{series_entry, entries_from, series, entry_step}
 
 -- the bytes of an index's pool
 abbrev pub pool_length : NameIndex → ℕ
@@ -38,17 +38,17 @@ SeriesShort = (order : RunTimeEndian) (s : List ℕ) (i : NameIndex) (name : Nam
 -- an answered entry has the handle that was asked for, which is below the pool's length
 abbrev pub HandlesBelow : Type 0
 HandlesBelow =
-    (order : RunTimeEndian) (s : List ℕ) (i : NameIndex) (offset : NameEntryOffset) (e : Entry) → name_entry order s i offset ≡ answered e
-    → (e.offset ≡ offset.0) × (offset.0 < pool_length i)
+    (order : RunTimeEndian) (s : List ℕ) (i : NameIndex) (offset : NameEntryOffset) (e : NameEntry) → name_entry order s i offset ≡ answered e
+    → (e.offset ≡ offset) × (offset.0 < pool_length i)
 
 -- the handle of an entry that a step answered leads to that entry
 abbrev pub HandlesLead : Type 0
 HandlesLead =
     (order : RunTimeEndian) (s : List ℕ) (i : NameIndex) (c : NameEntryIter) (e : NameEntry) → (entry_step order s i c).answer ≡ answered (Some e)
-    → name_entry_handed order s i e.offset ≡ answered e
+    → name_entry order s i e.offset ≡ answered e
 
 -- and what a step tells of it is what is read again from its handle
 abbrev pub HandlesTell : Type 0
 HandlesTell =
-    (order : RunTimeEndian) (s : List ℕ) (i : NameIndex) (c : NameEntryIter) (t : EntryAt) → (whole_step order s i c).answer ≡ answered (Some t)
-    → whole_entry order s i t.offset ≡ answered t.entry
+    (order : RunTimeEndian) (s : List ℕ) (p : Parts) (c : NameEntryIter) (t : EntryAt) → (whole_step order s p c).answer ≡ answered (Some t)
+    → whole_entry order s p t.offset ≡ answered t.entry

@@ -9,13 +9,11 @@ use Rattle.reader.specs.declared.endianity.RunTimeEndian.{RunTimeEndian}
 use Rattle.reader.specs.declared.common.NameTableIndex.{NameTableIndex}
 use Rattle.index.specs.declared.layout.NameIndex.{NameIndex}
 use Rattle.index.specs.declared.layout.Parts.{Parts}
-use Rattle.index.specs.Layout.{parts, fitted}
-use Rattle.names.specs.Units.{nth_word}
+use Rattle.index.specs.Layout.{fitted}
+use Rattle.index.specs.Words.{nth_word}
 use Rattle.entries.specs.declared.entry.NameEntry.{NameEntry}
 use Rattle.entries.specs.declared.series.NameEntryIter.{NameEntryIter}
-use Rattle.entries.specs.declared.entry.EntryAt.{EntryAt}
-use Rattle.entries.specs.Entries.{Entry, entry, handed}
-use Rattle.entries.specs.Inner.{told}
+use Rattle.entries.specs.Entries.{Entry, entry, as_name_entry}
 use Rattle.reader.specs.Errors.{fail_if}
 use Rattle.reader.specs.declared.error.Error.TheVariants.{DoesNotFit}
 use Rattle.reader.specs.Parts.{Section}
@@ -33,11 +31,10 @@ moved shown p (refused n v) = record { answer = refused n v; cursor = cursor_at 
 
 -- a section, in its byte order
 module _ (order : RunTimeEndian) (s : Section) where
-  -- the place of a name's first entry: the entry offset that is stored for the name, counted from the pool's start
-  unfoldable pub series_start : NameIndex → NameTableIndex → Outcome ℕ
-  series_start i name = do
-    p ← fitted s i
-    offset ← nth_word i.format order s p.entry_offset_data p.abbreviation_table name.0
+  -- In an index whose parts are `p`: the place of a name's first entry. The entry offset that is stored for the name counts from the pool's start.
+  unfoldable pub first_entry : Parts → NameTableIndex → Outcome ℕ
+  first_entry p name = do
+    offset ← nth_word p.index.format order s p.entry_offset_data p.abbreviation_table name.0
     skipped offset.value s p.entry_pool p.end
 
   -- the entry at a place, none where the series ends: at the pool's end, and at code 0
@@ -48,29 +45,30 @@ module _ (order : RunTimeEndian) (s : Section) where
   unfoldable pub entries_from : Parts → ℕ → Listing Entry
   entries_from p at = listing (series_entry p) (λ e. e.next) (part_end s p.end - at) at
 
-  -- The series of a name: the entries from its entry offset on. Where there is no such place in the pool, it is broken off at once, with
-  -- that refusal.
+  -- The entries of a name: those from its first on. Where there is no such place in the pool, the list is broken off at once, with that refusal.
+  unfoldable pub entries_of : Parts → NameTableIndex → Listing Entry
+  entries_of p name = or_broken (first_entry p name) (entries_from p)
+
+  -- The series of a name. 13 and 14 of the index are tested first, here and in the calls.
   unfoldable pub series : NameIndex → NameTableIndex → Listing Entry
-  series i name = or_broken (series_start i name) (entries_from (parts i))
+  series i name = or_broken (fitted s i) λ p. entries_of p name
 
   -- `name_entries`: the cursor before the first entry
   unfoldable pub name_entries : NameIndex → NameTableIndex → Outcome NameEntryIter
   name_entries i name = do
-    place ← series_start i name
+    p ← fitted s i
+    place ← first_entry p name
     answered (cursor_at place)
 
--- the step; 13 and 14 of the index are tested first, then that the cursor lies in the pool or at its end
-unfoldable pub step_showing : {A : Type 0} → (Entry → A) → RunTimeEndian → Section → NameIndex → NameEntryIter → Step A NameEntryIter
-step_showing shown order s i c = keeping c (do
-  p ← fitted s i
-  fail_if (ltb c.at p.entry_pool) DoesNotFit
-  fail_if (ltb p.end c.at) DoesNotFit
-  answered (moved shown p (series_entry order s p c.at)))
+  -- the step of a cursor that lies in the pool or at its end, else 14
+  unfoldable pub step_in : {A : Type 0} → (Entry → A) → Parts → NameEntryIter → Step A NameEntryIter
+  step_in shown p c = keeping c (do
+    fail_if (ltb c.at p.entry_pool) DoesNotFit
+    fail_if (ltb p.end c.at) DoesNotFit
+    answered (moved shown p (series_entry p c.at)))
 
--- `NameEntryIter::next`: an entry is shown by its handle, its code and its tag
-unfoldable pub entry_step : RunTimeEndian → Section → NameIndex → NameEntryIter → Step NameEntry NameEntryIter
-entry_step = step_showing handed
-
--- `NameEntryIter::next_whole`: it is shown with the first attribute of each name
-unfoldable pub whole_step : RunTimeEndian → Section → NameIndex → NameEntryIter → Step EntryAt NameEntryIter
-whole_step = step_showing told
+  -- `NameEntryIter::next`: an entry is shown by its handle, its code and its tag
+  unfoldable pub entry_step : NameIndex → NameEntryIter → Step NameEntry NameEntryIter
+  entry_step i c = keeping c (do
+    p ← fitted s i
+    answered (step_in as_name_entry p c))

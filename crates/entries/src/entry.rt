@@ -2,8 +2,8 @@
 // (order, section, index) stay parameters: with a struct that lends the section, contracts are no plainer (docs/DECISIONS.md).
 ghost use Rattle.std.specs.Prelude.{◌≡◌};
 ghost use Rattle.reader.specs.Answers.{outcome};
-ghost use Rattle.entries.specs.Entries.{less_whole, name_entry_handed};
-ghost use Rattle.entries.specs.Inner.{entry_read, whole_entry};
+ghost use Rattle.entries.specs.Entries.{name_entry};
+ghost use Rattle.entries.specs.Inner.{less_whole, entry_read, whole_entry};
 
 use abbreviations::get;
 use attributes::{Facts, read_facts};
@@ -74,30 +74,29 @@ pub fn read_entry(
 }
 
 // The entry with that handle, read whole. At a zero code it is refused with 10.
-#[tactic(auto, using(crate::proofs::EntryLaws::whole_step_lem))]
+#[tactic(auto, using(crate::proofs::EntryLaws::whole_read))]
 pub fn whole_entry(
     order: RunTimeEndian,
     section: &[u8],
-    index: NameIndex,
+    p: Parts,
     offset: NameEntryOffset,
 ) -> Result<WholeEntry, Error>
-    ensures { outcome result ≡ whole_entry order section.now index offset }
+    ensures { outcome result ≡ whole_entry order section.now p offset }
 {
-    let p = fit(section, index)?;
     let at = skip(offset.0, section, p.entry_pool, p.end)?;
     read_entry(order, section, p, at)?.ok_or(Error::NoEntryAtGivenOffset(offset))
 }
 
 // The entry with that handle.
-#[tactic(auto, using(crate::proofs::EntryLaws::name_entry_step))]
+#[tactic(auto, using(crate::proofs::EntryLaws::name_entry_read))]
 pub fn name_entry(
     order: RunTimeEndian,
     section: &[u8],
     index: NameIndex,
     offset: NameEntryOffset,
 ) -> Result<NameEntry, Error>
-    ensures { outcome result ≡ name_entry_handed order section.now index offset }
+    ensures { outcome result ≡ name_entry order section.now index offset }
 {
-    let entry = whole_entry(order, section, index, offset)?;
+    let entry = whole_entry(order, section, fit(section, index)?, offset)?;
     Ok(NameEntry::from(EntryAt { offset, entry }))
 }

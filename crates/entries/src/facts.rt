@@ -8,7 +8,7 @@ ghost use Rattle.entries.specs.Facts.{entry_compile_unit, entry_type_unit, entry
 
 use crate::entry::whole_entry;
 use attributes::EntryParent;
-use index::NameIndex;
+use index::{NameIndex, fit};
 use names::NameTypeUnit;
 use reader::{DebugInfoOffset, Error, NameEntryOffset, RunTimeEndian, UnitOffset};
 
@@ -22,8 +22,9 @@ pub fn compile_unit(
 ) -> Result<Option<DebugInfoOffset>, Error>
     ensures { outcome result ≡ entry_compile_unit order section.now index offset }
 {
-    let entry = whole_entry(order, section, index, offset)?;
-    attributes::compile_unit(order, section, index, entry.facts.compile_unit)
+    let p = fit(section, index)?;
+    let entry = whole_entry(order, section, p, offset)?;
+    attributes::compile_unit(order, section, p, entry.facts.compile_unit)
 }
 
 // The type unit that the entry names.
@@ -36,8 +37,9 @@ pub fn type_unit(
 ) -> Result<Option<NameTypeUnit>, Error>
     ensures { outcome result ≡ entry_type_unit order section.now index offset }
 {
-    let entry = whole_entry(order, section, index, offset)?;
-    attributes::type_unit(order, section, index, entry.facts.type_unit)
+    let p = fit(section, index)?;
+    let entry = whole_entry(order, section, p, offset)?;
+    attributes::type_unit(order, section, p, entry.facts.type_unit)
 }
 
 // The offset of the entry's DIE in its unit.
@@ -50,7 +52,8 @@ pub fn die_offset(
 ) -> Result<Option<UnitOffset>, Error>
     ensures { outcome result ≡ entry_die_offset order section.now index offset }
 {
-    let entry = whole_entry(order, section, index, offset)?;
+    let p = fit(section, index)?;
+    let entry = whole_entry(order, section, p, offset)?;
     attributes::die_offset(entry.facts.die_offset)
 }
 
@@ -64,7 +67,8 @@ pub fn parent(
 ) -> Result<EntryParent, Error>
     ensures { outcome result ≡ entry_parent order section.now index offset }
 {
-    let entry = whole_entry(order, section, index, offset)?;
+    let p = fit(section, index)?;
+    let entry = whole_entry(order, section, p, offset)?;
     attributes::parent(entry.facts.parent)
 }
 
@@ -78,6 +82,7 @@ pub fn type_hash(
 ) -> Result<Option<u64>, Error>
     ensures { outcome result ≡ entry_type_hash order section.now index offset }
 {
-    let entry = whole_entry(order, section, index, offset)?;
+    let p = fit(section, index)?;
+    let entry = whole_entry(order, section, p, offset)?;
     attributes::type_hash(entry.facts.type_hash)
 }

@@ -10,4 +10,4 @@ pub mod facts; // the five facts of an entry
 
 pub use entry::{EntryAt, NameEntry, WholeEntry, name_entry, read_entry, whole_entry};
 pub use facts::{compile_unit, die_offset, parent, type_hash, type_unit};
-pub use series::{NameEntryIter, name_entries};
+pub use series::{NameEntryIter, first_entry, name_entries, series_entry};

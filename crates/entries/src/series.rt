@@ -3,11 +3,11 @@
 ghost use Rattle.std.specs.Prelude.{◌≡◌};
 ghost use Rattle.reader.specs.Answers.{outcome};
 ghost use Rattle.reader.specs.Steps.{step_of};
-ghost use Rattle.entries.specs.Series.{name_entries, whole_step, entry_step};
+ghost use Rattle.entries.specs.Series.{first_entry, name_entries, entry_step};
+ghost use Rattle.entries.specs.Inner.{series_read, whole_step};
 
-use crate::entry::{EntryAt, NameEntry, read_entry};
-use index::{NameIndex, fit};
-use names::nth_word;
+use crate::entry::{EntryAt, NameEntry, WholeEntry, read_entry};
+use index::{NameIndex, Parts, fit, nth_word};
 use reader::{Error, NameEntryOffset, NameTableIndex, RunTimeEndian, Step, is_empty, skip};
 
 // A cursor over the entries of a name: the place of the next one. It fits an index if that lies in the pool or at its end.
@@ -16,8 +16,46 @@ pub struct NameEntryIter {
     pub at: usize,
 }
 
+// The place of a name's first entry, in an index whose parts are `p`.
+#[tactic(auto, unfolding(crate::specs::Series::first_entry))]
+pub fn first_entry(
+    order: RunTimeEndian,
+    section: &[u8],
+    p: Parts,
+    name: NameTableIndex,
+) -> Result<usize, Error>
+    ensures { outcome result ≡ first_entry order section.now p name }
+{
+    let offset = nth_word(
+        p.index.format,
+        order,
+        section,
+        p.entry_offset_data,
+        p.abbreviation_table,
+        name.0,
+    )?;
+    skip(offset.value, section, p.entry_pool, p.end)
+}
+
+// The entry at a place of a series, read whole; none where the series ends: at the pool's end, and at code 0.
+#[tactic(auto, using(crate::proofs::SeriesLaws::series_read_step))]
+#[inline(always)]
+pub fn series_entry(
+    order: RunTimeEndian,
+    section: &[u8],
+    p: Parts,
+    at: usize,
+) -> Result<Option<WholeEntry>, Error>
+    ensures { outcome result ≡ series_read order section.now p at }
+{
+    if is_empty(section, at, p.end) {
+        return Ok(None);
+    }
+    read_entry(order, section, p, at)
+}
+
 // The cursor before the first entry of a name.
-#[tactic(auto, unfolding(crate::specs::Series::name_entries, crate::specs::Series::series_start))]
+#[tactic(auto, unfolding(crate::specs::Series::name_entries))]
 pub fn name_entries(
     order: RunTimeEndian,
     section: &[u8],
@@ -26,48 +64,38 @@ pub fn name_entries(
 ) -> Result<NameEntryIter, Error>
     ensures { outcome result ≡ name_entries order section.now index name }
 {
-    let p = fit(section, index)?;
-    let offset = nth_word(
-        index.format,
-        order,
-        section,
-        p.entry_offset_data,
-        p.abbreviation_table,
-        name.0,
-    )?;
-    let place = skip(offset.value, section, p.entry_pool, p.end)?;
-    Ok(NameEntryIter { at: place })
+    let at = first_entry(order, section, fit(section, index)?, name)?;
+    Ok(NameEntryIter { at })
 }
 
 impl NameEntryIter {
-    // The next entry, read whole. At the pool's end and at code 0 the series ends. After an end or a refusal the cursor is at the pool's
-    // end; 13 and 14 leave it as it was.
+    // The next entry, read whole, in an index whose parts are `p`. At the pool's end and at code 0 the series ends. After an end or a refusal the
+    // cursor is at the pool's end; a cursor that lies outside the pool is refused with 14, which leaves it as it was.
     #[inline(always)]
     pub fn next_whole(
         self,
         order: RunTimeEndian,
         section: &[u8],
-        index: NameIndex,
+        p: Parts,
     ) -> Step<EntryAt, NameEntryIter>
-        ensures { step_of result.answer result.cursor ≡ whole_step order section.now index self }
+        ensures { step_of result.answer result.cursor ≡ whole_step order section.now p self }
     {
         let mut cursor = self;
-        let answer = cursor.advance_whole(order, section, index);
+        let answer = cursor.advance_whole(order, section, p);
         Step { answer, cursor }
     }
 
     // The same step of the cursor itself, so that a refusal can go up by `?`.
-    #[tactic(auto, using(crate::proofs::SeriesLaws::whole_step_lem), unfolding(crate::proofs::SeriesLaws::moved_by))]
+    #[tactic(auto, using(crate::proofs::SeriesLaws::whole_moved), unfolding(crate::proofs::SeriesLaws::moved_by))]
     #[inline(always)]
     fn advance_whole(
         &mut self,
         order: RunTimeEndian,
         section: &[u8],
-        index: NameIndex,
+        p: Parts,
     ) -> Result<Option<EntryAt>, Error>
-        ensures { step_of result self.new ≡ whole_step order section.now index self.old }
+        ensures { step_of result self.new ≡ whole_step order section.now p self.old }
     {
-        let p = fit(section, index)?;
         let at = self.at;
         if at < p.entry_pool {
             return Err(Error::DoesNotFit);
@@ -76,10 +104,7 @@ impl NameEntryIter {
             return Err(Error::DoesNotFit);
         }
         self.at = p.end;
-        if is_empty(section, at, p.end) {
-            return Ok(None);
-        }
-        let Some(entry) = read_entry(order, section, p, at)? else {
+        let Some(entry) = series_entry(order, section, p, at)? else {
             return Ok(None);
         };
         self.at = entry.next;
@@ -89,7 +114,7 @@ impl NameEntryIter {
         }))
     }
 
-    // The next entry: its handle, its code and its tag.
+    // The next entry: its handle, its code and its tag. 13 and 14 of the index leave the cursor as it was.
     pub fn next(
         self,
         order: RunTimeEndian,
@@ -104,7 +129,7 @@ impl NameEntryIter {
     }
 
     // The same step of the cursor itself.
-    #[tactic(auto, using(crate::proofs::SeriesLaws::entry_step_lem))]
+    #[tactic(auto, using(crate::proofs::SeriesLaws::entry_moved))]
     fn advance(
         &mut self,
         order: RunTimeEndian,
@@ -113,7 +138,8 @@ impl NameEntryIter {
     ) -> Result<Option<NameEntry>, Error>
         ensures { step_of result self.new ≡ entry_step order section.now index self.old }
     {
-        let entry = self.advance_whole(order, section, index)?;
+        let p = fit(section, index)?;
+        let entry = self.advance_whole(order, section, p)?;
         Ok(entry.map(NameEntry::from))
     }
 }

@@ -28,7 +28,7 @@ use Rattle.hashes.specs.declared.bucket.BucketName.{BucketName}
 use Rattle.hashes.specs.declared.hash.NameHashIter.{NameHashIter}
 use Rattle.reader.specs.Lists.{filterb}
 use Rattle.hashes.specs.Table.{nth_of, stored_start, stored_hash, bucket_of, run_from, examined_from, from_start, run, storing, names_of_hash}
-use Rattle.hashes.specs.Lookups.{bucket_cursor, hash_cursor, first_name, cursor_before, find_by_bucket, find_by_hash, first_or, found_at, no_more, next_in_bucket, next_storing, hashed, bucket_moved, hash_moved, bucket_step, hash_step}
+use Rattle.hashes.specs.Lookups.{bucket_cursor, hash_cursor, first_in_bucket, cursor_before, find_by_bucket, find_by_hash, first_or, found_at, no_more, next_in_bucket, next_storing, hashed, bucket_moved, hash_moved, bucket_step, hash_step}
 use Rattle.hashes.specs.Demand3.{bucket_answers, hash_answers, bucket_names, hash_names, BucketLookups, HashLookups}
 use Rattle.hashes.specs.Sanity.{NoneAtZero, BucketsEnd, HashesEnd, StepsFollow}
 use Rattle.hashes.proofs.TableLaws.{hashes_end, buckets-end, strings_inside, run_step, next_in_step, storing-rest, run_length, hash-names-length}
@@ -42,7 +42,7 @@ module _ (order : RunTimeEndian) (s : List ℕ) (i : NameIndex) where
   pub find-fits : (bucket : ℕ) → length s ≤ longest → Fits s i → bucket < i.bucket_count
       → find_by_bucket order s i bucket
       ≡ cond (ltb (i.name_count + 1) (stored_start order s (parts i) bucket)) (refused 1 (parts i).hash_table_data) (answered (started bucket (stored_start order s (parts i) bucket)))
-  unfolding find_by_bucket first_name stored_start nth_of started
+  unfolding find_by_bucket first_in_bucket stored_start nth_of started
   find-fits bucket short fits below =
       rw (
         fitted-fits s i short fits,
@@ -79,7 +79,7 @@ module _ (order : RunTimeEndian) (s : List ℕ) (i : NameIndex) where
   -- what an answered lookup says
   pub find-answered : (bucket : ℕ) (found : Option NameBucketIter) → find_by_bucket order s i bucket ≡ answered found
       → (length s ≤ longest) × Fits s i × (bucket < i.bucket_count) × (stored_start order s (parts i) bucket ≤ i.name_count + 1) × (found ≡ started bucket (stored_start order s (parts i) bucket))
-  unfolding find_by_bucket first_name
+  unfolding find_by_bucket first_in_bucket
   find-answered bucket found given =
       let (short, fits, below) = bounds given in
       let (inside, same) = taken (ltb (i.name_count + 1) (stored_start order s (parts i) bucket)) refl (sym (find-fits bucket short fits below) ∙ given) in
@@ -88,7 +88,7 @@ module _ (order : RunTimeEndian) (s : List ℕ) (i : NameIndex) where
       bounds : find_by_bucket order s i bucket ≡ answered found → (length s ≤ longest) × Fits s i × (bucket < i.bucket_count)
       bounds e =
           let (p, fits, rest) = bind_answered (fitted s i) _ found e in
-          let (first, began, rest₀) = bind_answered (first_name order s p.bucket_data p.hash_table_data p.name_table_data bucket) _ found rest in
+          let (first, began, rest₀) = bind_answered (first_in_bucket order s p bucket) _ found rest in
           let (at, skip, rest₁) = bind_answered (skipped (4 * bucket) s p.bucket_data p.hash_table_data) _ first began in
           let (start, read, rest₂) = bind_answered (read_number 4 order s at p.hash_table_data) _ first rest₁ in
           let (short, inside, same) = fitted-answered s i p fits in

@@ -59,23 +59,23 @@ hash_moved bucket hash f = record { answer = answered (option_map (λ name. reco
 
 -- a section, in its byte order
 module _ (order : RunTimeEndian) (s : Section) where
-  -- a bucket's first name, in a table whose starts lie at `starts` and whose hashes lie from `hashes` up to `end`: the bucket's start is skipped to
-  -- and read; 0 is none; then the hashes before the first name are skipped
-  unfoldable pub first_name : ℕ → ℕ → ℕ → ℕ → Outcome (Option ℕ)
-  first_name starts hashes end bucket = do
-    place ← skipped (4 * bucket) s starts hashes
-    start ← read_number 4 order s place hashes
+  -- a bucket's first name, in an index whose parts are `p`: the bucket's start is skipped to and read; 0 is none; then the hashes before the first
+  -- name are skipped
+  unfoldable pub first_in_bucket : Parts → ℕ → Outcome (Option ℕ)
+  first_in_bucket p bucket = do
+    place ← skipped (4 * bucket) s p.bucket_data p.hash_table_data
+    start ← read_number 4 order s place p.hash_table_data
     cond (eqb start.value 0)
         (answered None)
         (do
-          skipped (4 * (start.value - 1)) s hashes end
+          skipped (4 * (start.value - 1)) s p.hash_table_data p.name_table_data
           answered (Some (start.value - 1)))
 
   -- `find_by_bucket`: the cursor before the bucket's first name
   unfoldable pub find_by_bucket : NameIndex → ℕ → Outcome (Option NameBucketIter)
   find_by_bucket i bucket = do
     p ← fitted s i
-    first ← first_name p.bucket_data p.hash_table_data p.name_table_data bucket
+    first ← first_in_bucket p bucket
     answered (cursor_before bucket first)
 
   -- `find_by_hash`: the lookup of the hash's bucket

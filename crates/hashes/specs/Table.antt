@@ -1,13 +1,15 @@
 -- The hash table of an index: document 01, "Buckets and hashes" and the words of demand 3; DWARF 5, section 6.1.1.4.5. `s` is the
 -- section; names and buckets are counted from 0.
-use Rattle.std.specs.Prelude.{ℕ, suc, ◌+◌, ◌-◌, ◌*◌, ◌%◌, cond, List, [], length, take, eqb}
-use Rattle.reader.specs.Numbers.{number_at}
+use Rattle.std.specs.Prelude.{ℕ, suc, ◌+◌, ◌-◌, ◌*◌, ◌%◌, cond, List, [], length, take, eqb, Option, Some, None}
+use Rattle.reader.specs.Outcome.{Outcome, answered, ◌>>=◌}
+use Rattle.reader.specs.declared.common.NameTableIndex.{NameTableIndex}
+use Rattle.reader.specs.Numbers.{number_at, read_number}
 use Rattle.reader.specs.declared.endianity.RunTimeEndian.{RunTimeEndian}
 use Rattle.index.specs.declared.layout.NameIndex.{NameIndex}
 use Rattle.index.specs.declared.layout.Parts.{Parts}
 use Rattle.index.specs.Layout.{parts}
 use Rattle.reader.specs.Lists.{numbers_from, filterb, take_while}
-use Rattle.reader.specs.Parts.{Section}
+use Rattle.reader.specs.Parts.{Section, skipped}
 
 -- the bucket of a hash: the hash modulo B; without buckets gimli looks for bucket 0
 unfoldable pub bucket_of : NameIndex → ℕ → ℕ
@@ -46,6 +48,15 @@ module _ (order : RunTimeEndian) (s : Section) where
   -- and the hash that is stored for a name
   unfoldable pub stored_hash : Parts → ℕ → ℕ
   stored_hash p = nth_of p.hash_table_data
+
+  -- the same, skipped to and read, as the listing does; none without buckets
+  unfoldable pub name_hash : Parts → NameTableIndex → Outcome (Option ℕ)
+  name_hash p name = cond (eqb p.index.bucket_count 0)
+      (answered None)
+      (do
+        place ← skipped (4 * name.0) s p.hash_table_data p.name_table_data
+        hash ← read_number 4 order s place p.name_table_data
+        answered (Some hash.value))
 
   -- A bucket's run, with start s: names s-1, s and on, below N, as long as each stored hash modulo B is the bucket.
   unfoldable pub run : NameIndex → ℕ → List ℕ

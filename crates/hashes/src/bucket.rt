@@ -4,7 +4,7 @@ ghost use Rattle.std.specs.Prelude.{◌≡◌, ◌+◌, ◌*◌, ◌≤◌, leng
 ghost use Rattle.reader.specs.Answers.{outcome};
 ghost use Rattle.reader.specs.Steps.{step_of};
 ghost use Rattle.hashes.specs.Table.{nth_of, bucket_of};
-ghost use Rattle.hashes.specs.Lookups.{first_name, find_by_bucket, bucket_step};
+ghost use Rattle.hashes.specs.Lookups.{first_in_bucket, find_by_bucket, bucket_step};
 
 use index::{NameIndex, Parts, fit};
 use reader::{Error, NameTableIndex, Number, RunTimeEndian, Step, read_number, skip};
@@ -46,14 +46,14 @@ pub fn bucket_of(index: NameIndex, hash: u32) -> u32
 
 // The first name of a bucket, in the table of an index whose parts lie at `p`; none where the start that is stored for the bucket is 0. A start
 // one past the last name is taken, as in gimli; a later one is refused.
-#[tactic(auto, unfolding(crate::specs::Lookups::first_name))]
-pub fn first_name(
+#[tactic(auto, unfolding(crate::specs::Lookups::first_in_bucket))]
+pub fn first_in_bucket(
     order: RunTimeEndian,
     section: &[u8],
     p: Parts,
     bucket: u32,
 ) -> Result<Option<u32>, Error>
-    ensures { outcome result ≡ first_name order section.now p.bucket_data p.hash_table_data p.name_table_data bucket }
+    ensures { outcome result ≡ first_in_bucket order section.now p bucket }
 {
     let place = skip(
         4 * (bucket as usize),
@@ -86,7 +86,7 @@ pub fn find_by_bucket(
     ensures { outcome result ≡ find_by_bucket order section.now index bucket }
 {
     let p = fit(section, index)?;
-    let first = first_name(order, section, p, bucket)?;
+    let first = first_in_bucket(order, section, p, bucket)?;
     Ok(first.map(|first| NameBucketIter {
         name_table_index: NameTableIndex(first),
         bucket_index: bucket,

@@ -4,8 +4,10 @@
 // gimli's methods of an index are functions here, given the section and the index: 13 and 14 are tested first, in this order.
 #![tactic(auto)]
 
+pub mod stored; // the hash that is stored for a name
 pub mod bucket; // the names of a bucket, one after another
 pub mod hash; // the names that store a hash
 
-pub use bucket::{BucketName, NameBucketIter, bucket_of, find_by_bucket, first_name, nth_u32};
+pub use bucket::{BucketName, NameBucketIter, bucket_of, find_by_bucket, first_in_bucket, nth_u32};
 pub use hash::{Found, NameHashIter, find_by_hash, pass_over};
+pub use stored::name_hash;

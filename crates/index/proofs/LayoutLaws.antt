@@ -15,7 +15,8 @@ use Rattle.reader.specs.declared.common.Format.TheVariants.{Dwarf32, Dwarf64}
 use Rattle.index.specs.declared.layout.NameIndex.{NameIndex}
 use Rattle.index.specs.declared.layout.Parts.{Parts}
 use Rattle.index.specs.Sanity.{PartsFollow, PartsInside}
-use Rattle.index.specs.Layout.{word_bytes, hash_bytes, sizes, places_from, place, parts, Fits, fitted}
+use Rattle.index.specs.Words.{word_bytes}
+use Rattle.index.specs.Layout.{hash_bytes, sizes, places_from, place, parts, Fits, fitted}
 
 -- a word has at least four bytes, and at most eight
 pub words_least : (format : Format) (n : ℕ) → 4 * n ≤ word_bytes format n

@@ -1,6 +1,6 @@
 -- Laws of opening: cutting the parts by skips is comparing their places with the end; an opened index fits.
 use Prim.Native.Nat.{ℕ, ◌+◌, ◌≤◌}
-use mathlib.Core.Path.{◌≡◌, refl, sym, ◌∙◌}
+use mathlib.Core.Path.{◌≡◌, refl, sym, ap, ◌∙◌}
 use mathlib.Core.Bool.{Bool, true, false, cond}
 use mathlib.Core.List.{List, [], ◌∷◌}
 use native.Mathlib.Omega.{arith}
@@ -15,13 +15,13 @@ use Rattle.reader.proofs.OutcomeLaws.{same_answer, bind_answered, then_answered,
 use Rattle.reader.proofs.PartLaws.{skip_inside, skip_past, skip_answered, slice-within}
 use Rattle.abbreviations.specs.Abbreviations.{parsed}
 use Rattle.abbreviations.proofs.AbbreviationLaws.{parsed_part}
-use Rattle.headers.specs.declared.header.NameIndexHeader.{NameIndexHeader}
 use Rattle.index.specs.declared.layout.NameIndex.{NameIndex}
 use Rattle.index.specs.declared.layout.Parts.{Parts}
-use Rattle.index.specs.Layout.{sizes, places_from, place, parts, Fits}
+use Rattle.index.specs.Layout.{sizes, places_from, place, parts, Fits, fitted}
 use Rattle.index.specs.Sanity.{OpenedFits, OpensInPart}
-use Rattle.index.proofs.LayoutLaws.{parts-follow, places_ascend}
-use Rattle.index.specs.Open.{index_of, passed_over, cut_parts, refuse_past, parts_inside, name_index}
+use Rattle.index.proofs.LayoutLaws.{parts-follow, places_ascend, fitted-fits}
+use Rattle.index.specs.Open.{index_of, passed_over, cut_parts, opened, name_index}
+use Rattle.index.specs.Inner.{refuse_past, parts_inside}
 
 -- parts that are passed over one after another are refused as their places are
 passes : {B : Type 0} (b : Outcome B) (ns : List ℕ) (s : List ℕ) (at end : ℕ) → end ≤ length s → (passed_over ns s at end >> b) ≡ (refuse_past end (places_from at ns) >> b)
@@ -43,11 +43,6 @@ pub cut_inside : (s : List ℕ) (i : NameIndex) → i.end ≤ length s → cut_p
 unfolding cut_parts parts_inside parts place sizes places_from
 cut_inside s i h = passes (answered (parts i)) (sizes i) s i.begin i.end h
 
--- the same for the index that a header describes
-pub cut_described : (s : List ℕ) (h : NameIndexHeader) → h.content.end ≤ length s → cut_parts s (index_of h) ≡ parts_inside (parts (index_of h))
-unfolding index_of
-cut_described s h fits = cut_inside s (index_of h) fits
-
 -- parts that were passed over end at their last place, inside
 over_answered : (ns : List ℕ) (s : List ℕ) (at end q : ℕ) → at ≤ part_end s end → passed_over ns s at end ≡ answered q
     → (q ≤ part_end s end) × (q ≡ get_or (places_from at ns) (length ns) 0)
@@ -67,54 +62,66 @@ parts_cut s i p h e =
     let (inside, last) = over_answered (sizes i) s i.begin i.end q h over in
     (rw (sym last) inside, sym (same_answer same))
 
--- so the index that a header describes fits, where its parts were cut
-described_fits : (s : List ℕ) (h : NameIndexHeader) → h.content.end ≤ length s → h.content.at ≤ h.content.end → (p : Parts) → cut_parts s (index_of h) ≡ answered p → Fits s (index_of h)
-unfolding index_of
-described_fits s h ends begins p cuts =
-    let (pool, same) = parts_cut s (index_of h) p (omega arith) cuts in
-    (omega (arith, pool), ends)
+-- and its abbreviation table lies inside it
+same-table : (s t : List ℕ) (i : NameIndex) → i.end ≤ length s → i.begin ≤ i.end → slice i.begin i.end s ≡ slice i.begin i.end t
+    → (p : Parts) → cut_parts s i ≡ answered p → parsed s p.abbreviation_table p.entry_pool ≡ parsed t p.abbreviation_table p.entry_pool
+unfolding parts
+same-table s t i ends begins e p cuts =
+    let (pool, same) = parts_cut s i p (omega arith) cuts in
+    let (first, follow) = parts-follow i in
+    let after : place i 0 ≤ place i 7 = places_ascend i 0 7 (omega arith) (omega arith) in
+    rw same (parsed_part s t _ _ (slice-within s t i.begin (place i 7) (place i 8) i.end (omega (arith, first)) (omega (arith, pool)) e))
 
--- and its abbreviation table lies inside the header's part
-same-table : (s t : List ℕ) (h : NameIndexHeader) → h.content.end ≤ length s → h.content.at ≤ h.content.end
-    → slice h.content.at h.content.end s ≡ slice h.content.at h.content.end t
-    → (p : Parts) → cut_parts s (index_of h) ≡ answered p → parsed s p.abbreviation_table p.entry_pool ≡ parsed t p.abbreviation_table p.entry_pool
-unfolding index_of parts
-same-table s t h ends begins e p cuts =
-    let (pool, same) = parts_cut s (index_of h) p (omega arith) cuts in
-    let (first, follow) = parts-follow (index_of h) in
-    let after : place (index_of h) 0 ≤ place (index_of h) 7 = places_ascend (index_of h) 0 7 (omega arith) (omega arith) in
-    rw same (parsed_part s t _ _ (slice-within s t h.content.at (place (index_of h) 7) (place (index_of h) 8) h.content.end (omega (arith, first)) (omega (arith, pool)) e))
+-- an opened index fits the section, and what is answered are its parts
+opened_inside : (s : List ℕ) (i : NameIndex) (p : Parts) → opened s i ≡ answered p → (length s ≤ longest) × Fits s i × (p ≡ parts i)
+unfolding opened
+opened_inside s i p e =
+    let (u, short, e₁) = then_answered (refuse_if (ltb longest (length s)) 13 0) _ p e in
+    let (v, ends, e₂) = then_answered (refuse_if (ltb (length s) i.end) 14 0) _ p e₁ in
+    let (w, begins, e₃) = then_answered (refuse_if (ltb i.end i.begin) 14 0) _ p e₂ in
+    let (q, cuts, e₄) = bind_answered (cut_parts s i) _ p e₃ in
+    let (x, whole, e₅) = then_answered (parsed s q.abbreviation_table q.entry_pool) _ p e₄ in
+    let inside : i.end ≤ length s = ltb-false _ _ (passed _ 14 0 v ends) in
+    let ordered : i.begin ≤ i.end = ltb-false _ _ (passed _ 14 0 w begins) in
+    let (pool, same) = parts_cut s i q (omega arith) cuts in
+    (ltb-false _ _ (passed _ 13 0 u short), (omega (arith, pool), inside), sym (same_answer e₅) ∙ same)
+
+-- so it is answered what `fitted` answers
+pub opened_fitted : (s : List ℕ) (i : NameIndex) (p : Parts) → answered p ≡ opened s i → answered p ≡ fitted s i
+opened_fitted s i p e =
+    let (short, fits, same) = opened_inside s i p (sym e) in
+    rw same (sym (fitted-fits s i short fits))
 
 pub opened_fits : OpenedFits
-unfolding name_index
+unfolding name_index parts
 opened_fits s h i e =
-    let (u, short, e₁) = then_answered (refuse_if (ltb longest (length s)) 13 0) _ i e in
-    let (v, ends, e₂) = then_answered (refuse_if (ltb (length s) h.content.end) 14 0) _ i e₁ in
-    let (w, begins, e₃) = then_answered (refuse_if (ltb h.content.end h.content.at) 14 0) _ i e₂ in
-    let (p, cuts, e₄) = bind_answered (cut_parts s (index_of h)) _ i e₃ in
-    let (x, whole, e₅) = then_answered (parsed s p.abbreviation_table p.entry_pool) _ i e₄ in
-    let same : i ≡ index_of h = sym (same_answer e₅) in
-    (ltb-false _ _ (passed _ 13 0 u short), rw same (fits (ltb-false _ _ (passed _ 14 0 v ends)) (ltb-false _ _ (passed _ 14 0 w begins)) p cuts), same)
-  where
-    fits : h.content.end ≤ length s → h.content.at ≤ h.content.end → (p : Parts) → cut_parts s (index_of h) ≡ answered p → Fits s (index_of h)
-    fits ends begins p cuts = described_fits s h ends begins p cuts
+    let (p, opens, same) = bind_answered (opened s (index_of h)) _ i e in
+    let (short, fits, places) = opened_inside s (index_of h) p opens in
+    let is : i ≡ index_of h = sym (same_answer same) ∙ ap (λ p. p.index) places in
+    (short, rw is fits, is)
 
-pub opens_in_part : OpensInPart
-unfolding name_index
-opens_in_part s t h short-s short-t ends-s ends-t e = rw (
+-- what opening an index answers depends on the bytes of its own part alone
+opened_part : (s t : List ℕ) (i : NameIndex) → length s ≤ longest → length t ≤ longest → i.end ≤ length s → i.end ≤ length t
+    → slice i.begin i.end s ≡ slice i.begin i.end t → opened s i ≡ opened t i
+unfolding opened
+opened_part s t i short-s short-t ends-s ends-t e = rw (
   le-ltb longest (length s) short-s,
   le-ltb longest (length t) short-t,
-  le-ltb (length s) h.content.end ends-s,
-  le-ltb (length t) h.content.end ends-t,
-  cut_described s h ends-s,
-  cut_described t h ends-t,
-) (ordered (ltb h.content.end h.content.at) refl)
+  le-ltb (length s) i.end ends-s,
+  le-ltb (length t) i.end ends-t,
+  cut_inside s i ends-s,
+  cut_inside t i ends-t,
+) (ordered (ltb i.end i.begin) refl)
   where
-    rest : List ℕ → Outcome NameIndex
-    rest l = parts_inside (parts (index_of h)) >>= λ p. parsed l p.abbreviation_table p.entry_pool >> answered (index_of h)
+    rest : List ℕ → Outcome Parts
+    rest l = parts_inside (parts i) >>= λ p. parsed l p.abbreviation_table p.entry_pool >> answered p
 
-    ordered : (b : Bool) → ltb h.content.end h.content.at ≡ b → (refuse_if b 14 0 >> rest s) ≡ (refuse_if b 14 0 >> rest t)
+    ordered : (b : Bool) → ltb i.end i.begin ≡ b → (refuse_if b 14 0 >> rest s) ≡ (refuse_if b 14 0 >> rest t)
     ordered true f = refl
-    ordered false f = bind_same (parts_inside (parts (index_of h))) _ _ λ p cuts.
-        let begins : h.content.at ≤ h.content.end = ltb-false _ _ f in
-        rw (same-table s t h ends-s begins e p (cut_described s h ends-s ∙ cuts))
+    ordered false f = bind_same (parts_inside (parts i)) _ _ λ p cuts.
+        let begins : i.begin ≤ i.end = ltb-false _ _ f in
+        rw (same-table s t i ends-s begins e p (cut_inside s i ends-s ∙ cuts))
+
+pub opens_in_part : OpensInPart
+unfolding name_index index_of
+opens_in_part s t h short-s short-t ends-s ends-t e = rw (opened_part s t (index_of h) short-s short-t ends-s ends-t e)

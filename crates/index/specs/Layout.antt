@@ -3,7 +3,7 @@ use Rattle.std.specs.Prelude.{ℕ, ◌+◌, ◌*◌, ◌≤◌, cond, List, [], 
 use Rattle.reader.specs.Outcome.{Outcome, answered, ◌>>◌}
 use Rattle.reader.specs.declared.error.Error.TheVariants.{DoesNotFit, SectionTooLong}
 use Rattle.reader.specs.Errors.{longest, fail_if}
-use Rattle.reader.specs.Numbers.{word_size}
+use Rattle.index.specs.Words.{word_bytes}
 use Rattle.reader.specs.declared.common.Format.{Format}
 use Rattle.index.specs.declared.layout.NameIndex.{NameIndex}
 use Rattle.index.specs.declared.layout.Parts.{Parts}
@@ -21,10 +21,6 @@ no_index = record {
   begin = 0;
   end = 0;
 }
-
--- the bytes of n words
-unfoldable pub word_bytes : Format → ℕ → ℕ
-word_bytes format n = word_size format * n
 
 -- the bytes of the hashes: none without buckets
 unfoldable pub hash_bytes : ℕ → ℕ → ℕ
@@ -56,6 +52,7 @@ place i k = get_or (places_from i.begin (sizes i)) k 0
 -- where each part begins; each ends where the next begins, and the pool ends with the index
 unfoldable pub parts : NameIndex → Parts
 parts i = record {
+  index = i;
   compile_unit_list = place i 0;
   local_type_unit_list = place i 1;
   foreign_type_unit_list = place i 2;

@@ -1,8 +1,8 @@
 -- An index from a header: document 01, `NameIndex::new`. `s` is the section.
-use Rattle.std.specs.Prelude.{ℕ, cond, List, [], ◌∷◌, length, ltb}
+use Rattle.std.specs.Prelude.{ℕ, List, [], ◌∷◌, length, ltb}
 use Rattle.reader.specs.Outcome.{Outcome, answered, ◌>>=◌, ◌>>◌}
-use Rattle.reader.specs.declared.error.Error.TheVariants.{DoesNotFit, SectionTooLong, UnexpectedEof}
-use Rattle.reader.specs.Errors.{longest, fail_if, refusal}
+use Rattle.reader.specs.declared.error.Error.TheVariants.{DoesNotFit, SectionTooLong}
+use Rattle.reader.specs.Errors.{longest, fail_if}
 use Rattle.reader.specs.Parts.{skipped}
 use Rattle.abbreviations.specs.Abbreviations.{parsed}
 use Rattle.headers.specs.declared.header.NameIndexHeader.{NameIndexHeader}
@@ -37,34 +37,18 @@ cut_parts s i = do
   passed_over (sizes i) s i.begin i.end
   answered (parts i)
 
--- the same by comparing places, where the index ends inside the section (`cut_inside`): each place is compared with the end, and
--- the place before the first that lies past it is refused
-unfoldable pub refuse_past : ℕ → List ℕ → Outcome (Unit {0})
-refuse_past end [] = answered tt
-refuse_past end (a ∷ []) = answered tt
-refuse_past end (a ∷ b ∷ rest) = cond (ltb end b) (refusal (UnexpectedEof a)) (refuse_past end (b ∷ rest))
-
-unfoldable pub parts_inside : Parts → Outcome Parts
-parts_inside p = do
-  refuse_past p.end
-      (p.compile_unit_list
-      ∷ p.local_type_unit_list
-      ∷ p.foreign_type_unit_list
-      ∷ p.bucket_data
-      ∷ p.hash_table_data
-      ∷ p.name_table_data
-      ∷ p.entry_offset_data
-      ∷ p.abbreviation_table
-      ∷ p.entry_pool
-      ∷ [])
+-- an index opened: 13, then 14, then its parts are cut, and its abbreviation table is read whole
+unfoldable pub opened : List ℕ → NameIndex → Outcome Parts
+opened s i = do
+  fail_if (ltb longest (length s)) SectionTooLong
+  fail_if (ltb (length s) i.end) DoesNotFit
+  fail_if (ltb i.end i.begin) DoesNotFit
+  p ← cut_parts s i
+  parsed s p.abbreviation_table p.entry_pool
   answered p
 
--- the index of a header: 13, then 14, then its parts are cut, and its abbreviation table is read whole
+-- `NameIndex::new`: the index that a header describes, opened
 unfoldable pub name_index : List ℕ → NameIndexHeader → Outcome NameIndex
 name_index s h = do
-  fail_if (ltb longest (length s)) SectionTooLong
-  fail_if (ltb (length s) h.content.end) DoesNotFit
-  fail_if (ltb h.content.end h.content.at) DoesNotFit
-  p ← cut_parts s (index_of h)
-  parsed s p.abbreviation_table p.entry_pool
-  answered (index_of h)
+  p ← opened s (index_of h)
+  answered p.index

@@ -5,8 +5,9 @@
 ghost use Rattle.std.specs.Prelude.{◌≡◌, ◌≤◌};
 ghost use Rattle.reader.specs.Answers.{outcome};
 ghost use Rattle.reader.specs.Errors.{longest};
-ghost use Rattle.index.specs.Layout.{word_bytes, hash_bytes, parts, fitted};
+ghost use Rattle.index.specs.Layout.{hash_bytes, parts, fitted};
 
+use crate::word::words;
 use reader::{Error, Format, too_long};
 
 // An index of the section. The default is one without names and units, which fits every section: for a cursor that has opened none yet.
@@ -24,9 +25,11 @@ pub struct NameIndex {
     pub end: usize,
 }
 
-// The place where each part of an index begins. Each ends where the next begins, and the pool ends at `end`.
+// An index with the place where each of its parts begins. Each ends where the next begins, and the pool ends at `end`. Inner functions are
+// given these of an index that fits, so that the call above them tests once that it does (`fit`).
 #[derive(Clone, Copy)]
 pub struct Parts {
+    pub index: NameIndex,
     pub compile_unit_list: usize,
     pub local_type_unit_list: usize,
     pub foreign_type_unit_list: usize,
@@ -37,17 +40,6 @@ pub struct Parts {
     pub abbreviation_table: usize,
     pub entry_pool: usize,
     pub end: usize,
-}
-
-// The bytes of n words.
-#[tactic(auto, unfolding(crate::specs::Layout::word_bytes))]
-pub fn words(format: Format, n: u32) -> usize
-    ensures { result ≡ word_bytes format n }
-{
-    match format {
-        Format::Dwarf32 => 4 * (n as usize),
-        Format::Dwarf64 => 8 * (n as usize),
-    }
 }
 
 // The bytes of the hashes: none without buckets.
@@ -77,6 +69,7 @@ pub(crate) fn places(index: NameIndex) -> Parts
     let entries = strings + names;
     let abbreviations = entries + names;
     Parts {
+        index,
         compile_unit_list: index.begin,
         local_type_unit_list: local,
         foreign_type_unit_list: foreign,

@@ -6,8 +6,10 @@
 // section (refusal 14), and then reads as gimli does.
 #![tactic(auto)]
 
+pub mod word; // words, and a list of them
 pub mod layout; // an index: where each of its parts lies
-pub mod open; // an index from a header
+pub mod open; // opening an index, and an index from a header
 
-pub use layout::{NameIndex, Parts, fit, words};
-pub use open::index;
+pub use layout::{NameIndex, Parts, fit};
+pub use open::{index, open_index};
+pub use word::{nth_word, words};

@@ -1,7 +1,8 @@
 // An index from a header (gimli's `NameIndex::new`; document 01, "Headers and layout").
 ghost use Rattle.std.specs.Prelude.{◌≡◌};
 ghost use Rattle.reader.specs.Answers.{outcome};
-ghost use Rattle.index.specs.Open.{index_of, parts_inside, name_index};
+ghost use Rattle.index.specs.Open.{index_of, opened, name_index};
+ghost use Rattle.index.specs.Inner.{parts_inside};
 
 use crate::layout::{NameIndex, Parts, places};
 use headers::NameIndexHeader;
@@ -28,7 +29,7 @@ impl From<NameIndexHeader> for NameIndex {
 }
 
 // The parts of an index, if each ends inside it: the first that does not is refused at its place.
-#[tactic(auto, unfolding(crate::specs::Open::parts_inside, crate::specs::Open::refuse_past))]
+#[tactic(auto, unfolding(crate::specs::Inner::parts_inside, crate::specs::Inner::refuse_past))]
 fn cut_parts(p: Parts) -> Result<Parts, Error>
     ensures { outcome result ≡ parts_inside p }
 {
@@ -60,25 +61,33 @@ fn cut_parts(p: Parts) -> Result<Parts, Error>
     Ok(p)
 }
 
+// Opens an index: its parts are cut, and its abbreviation table is read whole.
+#[tactic(auto, unfolding(crate::specs::Open::opened), using(crate::proofs::OpenLaws::cut_inside))]
+pub fn open_index(section: &[u8], index: NameIndex) -> Result<Parts, Error>
+    ensures { outcome result ≡ opened section.now index }
+{
+    if too_long(section) {
+        return Err(Error::SectionTooLong);
+    }
+    if section.len() < index.end {
+        return Err(Error::DoesNotFit);
+    }
+    if index.end < index.begin {
+        return Err(Error::DoesNotFit);
+    }
+    let p = cut_parts(places(index))?;
+    abbreviations::parse(section, p.abbreviation_table, p.entry_pool)?;
+    Ok(p)
+}
+
 impl NameIndex {
-    // The index of a header: its parts are cut, and its abbreviation table is read whole.
-    #[tactic(auto, unfolding(crate::specs::Open::name_index), using(crate::proofs::OpenLaws::cut_described))]
+    // The index of a header, opened.
+    #[tactic(auto, unfolding(crate::specs::Open::name_index))]
     pub fn new(section: &[u8], header: NameIndexHeader) -> Result<NameIndex, Error>
         ensures { outcome result ≡ name_index section.now header }
     {
-        if too_long(section) {
-            return Err(Error::SectionTooLong);
-        }
-        if section.len() < header.content.end {
-            return Err(Error::DoesNotFit);
-        }
-        if header.content.end < header.content.at {
-            return Err(Error::DoesNotFit);
-        }
-        let index = NameIndex::from(header);
-        let p = cut_parts(places(index))?;
-        abbreviations::parse(section, p.abbreviation_table, p.entry_pool)?;
-        Ok(index)
+        let p = open_index(section, NameIndex::from(header))?;
+        Ok(p.index)
     }
 }
 

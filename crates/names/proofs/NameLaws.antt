@@ -20,7 +20,8 @@ use Rattle.index.proofs.LayoutLaws.{fitted-fits}
 use Rattle.reader.specs.Steps.{Linked, no_steps, step_then, Taken, answers, step_of}
 use Rattle.reader.specs.Lists.{numbers_from}
 use Rattle.names.specs.Sanity.{named, the_end, NamesInOrder}
-use Rattle.names.specs.Names.{before, first_name, step_from, name_step, name_string_offset, name_string, name_string_bytes}
+use Rattle.index.specs.declared.layout.Parts.{Parts}
+use Rattle.names.specs.Names.{name_string_in, name_string_offset_in, before, first_name, step_from, name_step, name_string_offset, name_string, name_string_bytes}
 use Rattle.reader.specs.Answers.{outcome}
 use Rattle.names.specs.declared.table.NameTableIter.{NameTableIter}
 
@@ -40,22 +41,26 @@ no_offset order s i name e = rw e
 
 pub string_bytes : (order : RunTimeEndian) (s strs : List ℕ) (i : NameIndex) (name : NameTableIndex)
     → name_string_bytes order s strs i name ≡ offset_bytes strs (name_string_offset order s i name)
-unfolding name_string_bytes name_string text_bytes offset_bytes str_bytes
+unfolding name_string_bytes name_string name_string_in name_string_offset text_bytes offset_bytes str_bytes
 string_bytes order s strs i name = tested (ltb longest (length s)) (ltb longest (length strs)) refl refl
   where
     there : (o : Outcome DebugStrOffset) → text_bytes strs (o >>= λ offset. get_str strs offset.0) ≡ offset_bytes strs o
     there (answered o) = refl
     there (refused n v) = refl
 
+    by_parts : (o : Outcome Parts) → text_bytes strs (o >>= λ p. name_string_in order s strs p name) ≡ offset_bytes strs (o >>= λ p. name_string_offset_in order s p name)
+    by_parts (answered p) = there (name_string_offset_in order s p name)
+    by_parts (refused n v) = refl
+
     none_there : (o : Outcome DebugStrOffset) → ltb longest (length strs) ≡ true → [] ≡ offset_bytes strs o
     none_there (answered o) e = sym (no_string strs o.0 e)
     none_there (refused n v) e = refl
 
     tested : (t u : Bool) → ltb longest (length s) ≡ t → ltb longest (length strs) ≡ u
-        → text_bytes strs (refuse_if t 13 0 >> (refuse_if u 13 0 >> (name_string_offset order s i name >>= λ offset. get_str strs offset.0))) ≡ offset_bytes strs (name_string_offset order s i name)
+        → text_bytes strs (refuse_if t 13 0 >> (refuse_if u 13 0 >> (fitted s i >>= λ p. name_string_in order s strs p name))) ≡ offset_bytes strs (name_string_offset order s i name)
     tested true u e f = rw (no_offset order s i name e)
     tested false true e f = none_there (name_string_offset order s i name) f
-    tested false false e f = there (name_string_offset order s i name)
+    tested false false e f = by_parts (fitted s i)
 
 -- the step of a cursor before name k, where the index fits
 step_fits : (s : List ℕ) (i : NameIndex) (k : ℕ) → length s ≤ longest → Fits s i → name_step s i (before k) ≡ step_from i k

@@ -12,9 +12,10 @@ use Rattle.reader.specs.declared.endianity.RunTimeEndian.{RunTimeEndian}
 use Rattle.reader.specs.declared.common.DebugStrOffset.{DebugStrOffset}
 use Rattle.reader.specs.declared.common.NameTableIndex.{NameTableIndex}
 use Rattle.index.specs.declared.layout.NameIndex.{NameIndex}
+use Rattle.index.specs.declared.layout.Parts.{Parts}
 use Rattle.index.specs.Layout.{fitted}
 use Rattle.names.specs.declared.table.NameTableIter.{NameTableIter}
-use Rattle.names.specs.Units.{nth_word}
+use Rattle.index.specs.Words.{nth_word}
 use Rattle.reader.specs.Parts.{Section}
 
 -- the cursor before a name, and the one before the first
@@ -38,21 +39,32 @@ name_step s i c = keeping c (do
 
 -- a section, in its byte order
 module _ (order : RunTimeEndian) (s : Section) where
-  -- the string offset of a name
+  -- the string offset of a name, in an index whose parts are `p`
+  unfoldable pub name_string_offset_in : Parts → NameTableIndex → Outcome DebugStrOffset
+  name_string_offset_in p name = do
+    offset ← nth_word p.index.format order s p.name_table_data p.entry_offset_data name.0
+    answered (record { 0 = offset.value })
+
+  -- and its string
+  unfoldable pub name_string_in : Section → Parts → NameTableIndex → Outcome Str
+  name_string_in strs p name = do
+    offset ← name_string_offset_in p name
+    get_str strs offset.0
+
+  -- the calls: the string offset of a name,
   unfoldable pub name_string_offset : NameIndex → NameTableIndex → Outcome DebugStrOffset
   name_string_offset i name = do
     p ← fitted s i
-    offset ← nth_word i.format order s p.name_table_data p.entry_offset_data name.0
-    answered (record { 0 = offset.value })
+    name_string_offset_in p name
 
-  -- the string of a name: 13 for .debug_names, 13 for .debug_str, 14, the string offset, the string
-  unfoldable pub name_string : List ℕ → NameIndex → NameTableIndex → Outcome Str
+  -- its string: 13 for .debug_names, 13 for .debug_str, 14, the string offset, the string;
+  unfoldable pub name_string : Section → NameIndex → NameTableIndex → Outcome Str
   name_string strs i name = do
     fail_if (ltb longest (length s)) SectionTooLong
     fail_if (ltb longest (length strs)) SectionTooLong
-    offset ← name_string_offset i name
-    get_str strs offset.0
+    p ← fitted s i
+    name_string_in strs p name
 
-  -- its bytes in .debug_str; none where it is refused
-  unfoldable pub name_string_bytes : List ℕ → NameIndex → NameTableIndex → List ℕ
+  -- and its bytes in .debug_str, none where it is refused
+  unfoldable pub name_string_bytes : Section → NameIndex → NameTableIndex → List ℕ
   name_string_bytes strs i name = text_bytes strs (name_string strs i name)

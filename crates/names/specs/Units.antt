@@ -1,25 +1,20 @@
 -- The units of an index: document 01, "Headers and layout". `s` is the section.
 use Rattle.std.specs.Prelude.{ℕ, ◌-◌, ◌*◌, cond, ltb, eqb, Option, Some, None}
-use Rattle.reader.specs.Outcome.{Outcome, answered, ◌>>=◌, ◌>>◌}
+use Rattle.reader.specs.Outcome.{Outcome, answered, ◌>>=◌}
 use Rattle.reader.specs.Parts.{skipped}
-use Rattle.reader.specs.Numbers.{read_number, word_size}
-use Rattle.reader.specs.declared.reader.Read.{Read}
+use Rattle.reader.specs.Numbers.{read_number}
 use Rattle.reader.specs.declared.endianity.RunTimeEndian.{RunTimeEndian}
 use Rattle.reader.specs.declared.common.Format.{Format}
 use Rattle.reader.specs.declared.common.DebugInfoOffset.{DebugInfoOffset}
 use Rattle.reader.specs.declared.common.DebugTypeSignature.{DebugTypeSignature}
 use Rattle.index.specs.declared.layout.NameIndex.{NameIndex}
-use Rattle.index.specs.Layout.{word_bytes, fitted}
+use Rattle.index.specs.declared.layout.Parts.{Parts}
+use Rattle.index.specs.Words.{nth_word}
+use Rattle.index.specs.Layout.{fitted}
 use Rattle.names.specs.declared.units.NameTypeUnit.{NameTypeUnit}
 use Rattle.reader.specs.Parts.{Section}
 
--- the word of number k in a list of words from `at` up to `end`: skip, then read
-unfoldable pub nth_word : Format → RunTimeEndian → Section → ℕ → ℕ → ℕ → Outcome (Read ℕ)
-nth_word format order s at end k = do
-  place ← skipped (word_bytes format k) s at end
-  read_number (word_size format) order s place end
-
--- the same as an offset of .debug_info
+-- the word of number k in a list from `at` up to `end`, as an offset of .debug_info
 unfoldable pub unit_in : Format → RunTimeEndian → Section → ℕ → ℕ → ℕ → Outcome DebugInfoOffset
 unit_in format order s at end k = do
   offset ← nth_word format order s at end k
@@ -27,40 +22,60 @@ unit_in format order s at end k = do
 
 -- a section, in its byte order
 module _ (order : RunTimeEndian) (s : Section) where
-  unfoldable pub nth_compile_unit : NameIndex → ℕ → Outcome DebugInfoOffset
-  nth_compile_unit i k = do
-    p ← fitted s i
-    unit_in i.format order s p.compile_unit_list p.local_type_unit_list k
+  -- the units of an index whose parts are `p`, by their number
+  unfoldable pub compile_unit_in : Parts → ℕ → Outcome DebugInfoOffset
+  compile_unit_in p k = unit_in p.index.format order s p.compile_unit_list p.local_type_unit_list k
 
-  unfoldable pub local_type_unit : NameIndex → ℕ → Outcome DebugInfoOffset
-  local_type_unit i k = do
-    p ← fitted s i
-    unit_in i.format order s p.local_type_unit_list p.foreign_type_unit_list k
+  unfoldable pub local_type_unit_in : Parts → ℕ → Outcome DebugInfoOffset
+  local_type_unit_in p k = unit_in p.index.format order s p.local_type_unit_list p.foreign_type_unit_list k
 
   -- signatures have 8 bytes in both formats
-  unfoldable pub foreign_type_unit : NameIndex → ℕ → Outcome DebugTypeSignature
-  foreign_type_unit i k = do
-    p ← fitted s i
+  unfoldable pub foreign_type_unit_in : Parts → ℕ → Outcome DebugTypeSignature
+  foreign_type_unit_in p k = do
     place ← skipped (8 * k) s p.foreign_type_unit_list p.bucket_data
     signature ← read_number 8 order s place p.bucket_data
     answered (record { 0 = signature.value })
 
   -- local numbers first, then foreign ones
-  unfoldable pub nth_type_unit : NameIndex → ℕ → Outcome NameTypeUnit
-  nth_type_unit i k = cond (ltb k i.local_type_unit_count)
+  unfoldable pub type_unit_in : Parts → ℕ → Outcome NameTypeUnit
+  type_unit_in p k = cond (ltb k p.index.local_type_unit_count)
       (do
-        unit ← local_type_unit i k
+        unit ← local_type_unit_in p k
         answered (NameTypeUnit.Local unit))
       (do
-        signature ← foreign_type_unit i (k - i.local_type_unit_count)
+        signature ← foreign_type_unit_in p (k - p.index.local_type_unit_count)
         answered (NameTypeUnit.Foreign signature))
 
   -- the only unit if there is one, else none
-  unfoldable pub default_compile_unit : NameIndex → Outcome (Option DebugInfoOffset)
-  default_compile_unit i = cond (eqb i.compile_unit_count 1)
+  unfoldable pub default_compile_unit_in : Parts → Outcome (Option DebugInfoOffset)
+  default_compile_unit_in p = cond (eqb p.index.compile_unit_count 1)
       (do
-        unit ← nth_compile_unit i 0
+        unit ← compile_unit_in p 0
         answered (Some unit))
-      (do
-        fitted s i
-        answered None)
+      (answered None)
+
+  -- the calls: 13 and 14 of the index are tested first
+  unfoldable pub nth_compile_unit : NameIndex → ℕ → Outcome DebugInfoOffset
+  nth_compile_unit i k = do
+    p ← fitted s i
+    compile_unit_in p k
+
+  unfoldable pub local_type_unit : NameIndex → ℕ → Outcome DebugInfoOffset
+  local_type_unit i k = do
+    p ← fitted s i
+    local_type_unit_in p k
+
+  unfoldable pub foreign_type_unit : NameIndex → ℕ → Outcome DebugTypeSignature
+  foreign_type_unit i k = do
+    p ← fitted s i
+    foreign_type_unit_in p k
+
+  unfoldable pub nth_type_unit : NameIndex → ℕ → Outcome NameTypeUnit
+  nth_type_unit i k = do
+    p ← fitted s i
+    type_unit_in p k
+
+  unfoldable pub default_compile_unit : NameIndex → Outcome (Option DebugInfoOffset)
+  default_compile_unit i = do
+    p ← fitted s i
+    default_compile_unit_in p

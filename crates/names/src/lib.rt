@@ -1,7 +1,8 @@
 // What the fixed parts of an index say: its counts, its units, its names and their strings, and its abbreviations by code (gimli's
 // `NameIndex`; document 01, "Headers and layout" and "Strings"; DWARF 5, section 6.1.1.4).
 //
-// gimli's methods are functions here, given the section and the index: 13 and 14 are tested first, in this order.
+// gimli's methods are functions here, given the section and the index: 13 and 14 are tested first, in this order. Beside some of them stands a
+// function whose name ends in `_in`: it is given the parts of an index that fits, and so tests nothing of it again.
 #![tactic(auto)]
 
 pub mod counts; // how many units, buckets and names
@@ -14,8 +15,11 @@ pub use counts::{
     local_type_unit_count, name_count, type_unit_count,
 };
 pub use declarations::get_abbreviation;
-pub use table::{NameTableIter, name_string, name_string_offset, name_string_slice, names};
+pub use table::{
+    NameTableIter, name_string, name_string_in, name_string_offset, name_string_offset_in,
+    name_string_slice, names,
+};
 pub use units::{
-    NameTypeUnit, compile_unit, default_compile_unit, foreign_type_unit, local_type_unit, nth_word,
-    type_unit,
+    NameTypeUnit, compile_unit, compile_unit_in, default_compile_unit, default_compile_unit_in,
+    foreign_type_unit, local_type_unit, type_unit, type_unit_in,
 };

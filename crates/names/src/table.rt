@@ -4,10 +4,9 @@
 ghost use Rattle.std.specs.Prelude.{◌≡◌};
 ghost use Rattle.reader.specs.Answers.{outcome};
 ghost use Rattle.reader.specs.Steps.{step_of};
-ghost use Rattle.names.specs.Names.{first_name, name_step, name_string_offset, name_string, name_string_bytes};
+ghost use Rattle.names.specs.Names.{first_name, name_step, name_string_offset_in, name_string_in, name_string_offset, name_string, name_string_bytes};
 
-use crate::units::nth_word;
-use index::{NameIndex, fit};
+use index::{NameIndex, Parts, fit, nth_word};
 use reader::{DebugStrOffset, Error, NameTableIndex, RunTimeEndian, Step, too_long};
 use strings::{DebugStr, Str};
 
@@ -53,6 +52,42 @@ impl NameTableIter {
     }
 }
 
+// The .debug_str offset of a name's string, in an index whose parts are `p`.
+#[tactic(auto, unfolding(crate::specs::Names::name_string_offset_in))]
+pub fn name_string_offset_in(
+    order: RunTimeEndian,
+    section: &[u8],
+    p: Parts,
+    name: NameTableIndex,
+) -> Result<DebugStrOffset, Error>
+    ensures { outcome result ≡ name_string_offset_in order section.now p name }
+{
+    let w = nth_word(
+        p.index.format,
+        order,
+        section,
+        p.name_table_data,
+        p.entry_offset_data,
+        name.0,
+    )?;
+    Ok(DebugStrOffset(w.value))
+}
+
+// And where the string stands.
+#[tactic(auto, unfolding(crate::specs::Names::name_string_in))]
+pub fn name_string_in(
+    order: RunTimeEndian,
+    section: &[u8],
+    strings: &[u8],
+    p: Parts,
+    name: NameTableIndex,
+) -> Result<Str, Error>
+    ensures { outcome result ≡ name_string_in order section.now strings.now p name }
+{
+    let offset = name_string_offset_in(order, section, p, name)?;
+    DebugStr::get_str(strings, offset)
+}
+
 // The .debug_str offset of a name's string.
 #[tactic(auto, unfolding(crate::specs::Names::name_string_offset))]
 pub fn name_string_offset(
@@ -63,16 +98,7 @@ pub fn name_string_offset(
 ) -> Result<DebugStrOffset, Error>
     ensures { outcome result ≡ name_string_offset order section.now index name }
 {
-    let p = fit(section, index)?;
-    let w = nth_word(
-        index.format,
-        order,
-        section,
-        p.name_table_data,
-        p.entry_offset_data,
-        name.0,
-    )?;
-    Ok(DebugStrOffset(w.value))
+    name_string_offset_in(order, section, fit(section, index)?, name)
 }
 
 // Where a name's string stands in .debug_str, which is lent as `strings`. A refusal 1 carries a place in the section that was
@@ -93,8 +119,7 @@ pub fn name_string(
     if too_long(strings) {
         return Err(Error::SectionTooLong);
     }
-    let offset = name_string_offset(order, section, index, name)?;
-    DebugStr::get_str(strings, offset)
+    name_string_in(order, section, strings, fit(section, index)?, name)
 }
 
 // The bytes of a name's string, as a part of the lent .debug_str; no bytes where `name_string` refuses.

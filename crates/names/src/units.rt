@@ -2,15 +2,15 @@
 //
 // A unit's number is skipped to and then read: a number equal to the count is refused at the list's end, and a larger one at the
 // list's start. Compile units and local type units are two calls, as in gimli, over the same `unit_in`.
+// Each is found in an index that fits, by its parts; the calls below test that first.
 // (order, section, index) stay parameters: with a struct that lends the section, contracts are no plainer (docs/DECISIONS.md).
 ghost use Rattle.std.specs.Prelude.{◌≡◌};
 ghost use Rattle.reader.specs.Answers.{outcome};
-ghost use Rattle.names.specs.Units.{nth_word, unit_in, nth_compile_unit, local_type_unit, foreign_type_unit, nth_type_unit, default_compile_unit};
+ghost use Rattle.names.specs.Units.{unit_in, compile_unit_in, local_type_unit_in, foreign_type_unit_in, type_unit_in, default_compile_unit_in, nth_compile_unit, local_type_unit, foreign_type_unit, nth_type_unit, default_compile_unit};
 
-use index::{NameIndex, fit, words};
+use index::{NameIndex, Parts, fit, nth_word};
 use reader::{
-    DebugInfoOffset, DebugTypeSignature, Error, Format, Read, RunTimeEndian, read_number,
-    read_offset, skip,
+    DebugInfoOffset, DebugTypeSignature, Error, Format, RunTimeEndian, read_number, skip,
 };
 
 // A type unit: the offset of a local one, or the signature of a foreign one.
@@ -18,22 +18,6 @@ use reader::{
 pub enum NameTypeUnit {
     Local(DebugInfoOffset),
     Foreign(DebugTypeSignature),
-}
-
-// The word of that number, counted from 0, in a list of words from `at` up to `end`.
-#[tactic(auto, unfolding(crate::specs::Units::nth_word))]
-pub fn nth_word(
-    format: Format,
-    order: RunTimeEndian,
-    s: &[u8],
-    at: usize,
-    end: usize,
-    number: u32,
-) -> Result<Read<usize>, Error>
-    ensures { outcome result ≡ nth_word format order s.now at end number }
-{
-    let place = skip(words(format, number), s, at, end)?;
-    read_offset(format, order, s, place, end)
 }
 
 // The unit of that number in a list of .debug_info offsets from `at` up to `end`.
@@ -52,20 +36,19 @@ fn unit_in(
     Ok(DebugInfoOffset(w.value))
 }
 
-// The .debug_info offset of a compile unit.
-#[tactic(auto, unfolding(crate::specs::Units::nth_compile_unit))]
-pub fn compile_unit(
+// The .debug_info offset of a compile unit, in an index whose parts are `p`.
+#[tactic(auto, unfolding(crate::specs::Units::compile_unit_in))]
+pub fn compile_unit_in(
     order: RunTimeEndian,
     section: &[u8],
-    index: NameIndex,
+    p: Parts,
     number: u32,
 ) -> Result<DebugInfoOffset, Error>
-    ensures { outcome result ≡ nth_compile_unit order section.now index number }
+    ensures { outcome result ≡ compile_unit_in order section.now p number }
 {
-    let p = fit(section, index)?;
     let end = p.local_type_unit_list;
     unit_in(
-        index.format,
+        p.index.format,
         order,
         section,
         p.compile_unit_list,
@@ -75,19 +58,18 @@ pub fn compile_unit(
 }
 
 // The .debug_info offset of a local type unit.
-#[tactic(auto, unfolding(crate::specs::Units::local_type_unit))]
-pub fn local_type_unit(
+#[tactic(auto, unfolding(crate::specs::Units::local_type_unit_in))]
+fn local_type_unit_in(
     order: RunTimeEndian,
     section: &[u8],
-    index: NameIndex,
+    p: Parts,
     number: u32,
 ) -> Result<DebugInfoOffset, Error>
-    ensures { outcome result ≡ local_type_unit order section.now index number }
+    ensures { outcome result ≡ local_type_unit_in order section.now p number }
 {
-    let p = fit(section, index)?;
     let end = p.foreign_type_unit_list;
     unit_in(
-        index.format,
+        p.index.format,
         order,
         section,
         p.local_type_unit_list,
@@ -97,16 +79,15 @@ pub fn local_type_unit(
 }
 
 // The signature of a foreign type unit.
-#[tactic(auto, unfolding(crate::specs::Units::foreign_type_unit))]
-pub fn foreign_type_unit(
+#[tactic(auto, unfolding(crate::specs::Units::foreign_type_unit_in))]
+fn foreign_type_unit_in(
     order: RunTimeEndian,
     section: &[u8],
-    index: NameIndex,
+    p: Parts,
     number: u32,
 ) -> Result<DebugTypeSignature, Error>
-    ensures { outcome result ≡ foreign_type_unit order section.now index number }
+    ensures { outcome result ≡ foreign_type_unit_in order section.now p number }
 {
-    let p = fit(section, index)?;
     let end = p.bucket_data;
     let place = skip(
         8 * (number as usize),
@@ -119,6 +100,82 @@ pub fn foreign_type_unit(
 }
 
 // The type unit of a number: local numbers come first, then foreign ones.
+#[tactic(auto, unfolding(crate::specs::Units::type_unit_in))]
+pub fn type_unit_in(
+    order: RunTimeEndian,
+    section: &[u8],
+    p: Parts,
+    number: u32,
+) -> Result<NameTypeUnit, Error>
+    ensures { outcome result ≡ type_unit_in order section.now p number }
+{
+    let local = p.index.local_type_unit_count;
+    if number < local {
+        let u = local_type_unit_in(order, section, p, number)?;
+        return Ok(NameTypeUnit::Local(u));
+    }
+    let t = foreign_type_unit_in(order, section, p, number - local)?;
+    Ok(NameTypeUnit::Foreign(t))
+}
+
+// The only compile unit: entries of such an index need not name it.
+#[tactic(auto, unfolding(crate::specs::Units::default_compile_unit_in))]
+pub fn default_compile_unit_in(
+    order: RunTimeEndian,
+    section: &[u8],
+    p: Parts,
+) -> Result<Option<DebugInfoOffset>, Error>
+    ensures { outcome result ≡ default_compile_unit_in order section.now p }
+{
+    if p.index.compile_unit_count == 1 {
+        let u = compile_unit_in(order, section, p, 0)?;
+        return Ok(Some(u));
+    }
+    Ok(None)
+}
+
+// The calls of an index: 13 and 14 come first, and then the unit is looked for as above.
+
+// A compile unit.
+#[tactic(auto, unfolding(crate::specs::Units::nth_compile_unit))]
+pub fn compile_unit(
+    order: RunTimeEndian,
+    section: &[u8],
+    index: NameIndex,
+    number: u32,
+) -> Result<DebugInfoOffset, Error>
+    ensures { outcome result ≡ nth_compile_unit order section.now index number }
+{
+    compile_unit_in(order, section, fit(section, index)?, number)
+}
+
+// A local type unit.
+#[tactic(auto, unfolding(crate::specs::Units::local_type_unit))]
+pub fn local_type_unit(
+    order: RunTimeEndian,
+    section: &[u8],
+    index: NameIndex,
+    number: u32,
+) -> Result<DebugInfoOffset, Error>
+    ensures { outcome result ≡ local_type_unit order section.now index number }
+{
+    local_type_unit_in(order, section, fit(section, index)?, number)
+}
+
+// A foreign type unit.
+#[tactic(auto, unfolding(crate::specs::Units::foreign_type_unit))]
+pub fn foreign_type_unit(
+    order: RunTimeEndian,
+    section: &[u8],
+    index: NameIndex,
+    number: u32,
+) -> Result<DebugTypeSignature, Error>
+    ensures { outcome result ≡ foreign_type_unit order section.now index number }
+{
+    foreign_type_unit_in(order, section, fit(section, index)?, number)
+}
+
+// A type unit of either kind.
 #[tactic(auto, unfolding(crate::specs::Units::nth_type_unit))]
 pub fn type_unit(
     order: RunTimeEndian,
@@ -128,16 +185,10 @@ pub fn type_unit(
 ) -> Result<NameTypeUnit, Error>
     ensures { outcome result ≡ nth_type_unit order section.now index number }
 {
-    let local = index.local_type_unit_count;
-    if number < local {
-        let u = local_type_unit(order, section, index, number)?;
-        return Ok(NameTypeUnit::Local(u));
-    }
-    let t = foreign_type_unit(order, section, index, number - local)?;
-    Ok(NameTypeUnit::Foreign(t))
+    type_unit_in(order, section, fit(section, index)?, number)
 }
 
-// The only compile unit: entries of such an index need not name it.
+// The only compile unit, if there is one alone.
 #[tactic(auto, unfolding(crate::specs::Units::default_compile_unit))]
 pub fn default_compile_unit(
     order: RunTimeEndian,
@@ -146,10 +197,5 @@ pub fn default_compile_unit(
 ) -> Result<Option<DebugInfoOffset>, Error>
     ensures { outcome result ≡ default_compile_unit order section.now index }
 {
-    if index.compile_unit_count == 1 {
-        let u = compile_unit(order, section, index, 0)?;
-        return Ok(Some(u));
-    }
-    fit(section, index)?;
-    Ok(None)
+    default_compile_unit_in(order, section, fit(section, index)?)
 }

@@ -2,7 +2,7 @@
 use Rattle.std.specs.Prelude.{ℕ, Option, Some, None}
 use Rattle.reader.specs.Outcome.{Outcome, answered, ◌>>=◌}
 use Rattle.reader.specs.declared.endianity.RunTimeEndian.{RunTimeEndian}
-use Rattle.index.specs.declared.layout.NameIndex.{NameIndex}
+use Rattle.index.specs.declared.layout.Parts.{Parts}
 use Rattle.attributes.specs.declared.facts.Facts.{Facts}
 use Rattle.attributes.specs.Meaning.{die_offset_of}
 use Rattle.records.specs.declared.unit.ShownUnit.{ShownUnit}
@@ -50,17 +50,17 @@ with_die w tag unit None = record {
 abbrev pub record_of : Where → Shown → Record
 record_of w what = with_die w what.tag what.unit what.die
 
--- a section, in its byte order
+-- a section, in its byte order, and an index of it whose parts are `p`
 module _ (order : RunTimeEndian) (s : Section) where
   -- its unit is found first, then its DIE offset; `f` has the first attribute of each name
-  unfoldable pub shown : NameIndex → ℕ → Facts → Outcome Shown
-  shown i tag f = do
-    unit ← entry_unit order s i f
+  unfoldable pub shown : Parts → ℕ → Facts → Outcome Shown
+  shown p tag f = do
+    unit ← entry_unit order s p f
     die ← die_offset_of f.die_offset
     answered (record { tag = tag; unit = unit; die = die })
 
   -- the record of an entry
-  unfoldable pub entry_record : NameIndex → Where → ℕ → Facts → Outcome Record
-  entry_record i w tag f = do
-    what ← shown i tag f
+  unfoldable pub entry_record : Parts → Where → ℕ → Facts → Outcome Record
+  entry_record p w tag f = do
+    what ← shown p tag f
     answered (record_of w what)

@@ -5,6 +5,8 @@ use Rattle.reader.specs.Outcome.{Outcome, answered, refused}
 use Rattle.reader.specs.declared.endianity.RunTimeEndian.{RunTimeEndian}
 use Rattle.reader.specs.declared.common.Format.{Format}
 use Rattle.index.specs.declared.layout.NameIndex.{NameIndex}
+use Rattle.index.specs.declared.layout.Parts.{Parts}
+use Rattle.index.specs.Layout.{parts}
 use Rattle.names.specs.declared.units.NameTypeUnit.{NameTypeUnit}
 use Rattle.forms.specs.declared.NameAttributeValue.{NameAttributeValue}
 use Rattle.attributes.specs.declared.attribute.FirstAttribute.{FirstAttribute}
@@ -24,27 +26,27 @@ AsTypeUnit fact unit =
 -- stands exactly if the entry has it, in any form.
 abbrev pub TypeUnitDecides : Type 0
 TypeUnitDecides =
-    (order : RunTimeEndian) (s : List ℕ) (i : NameIndex) (f : Facts) → stands f.type_unit ≡ true
-    → AsTypeUnit (type_unit_of order s i f.type_unit) (entry_unit order s i f)
+    (order : RunTimeEndian) (s : List ℕ) (p : Parts) (f : Facts) → stands f.type_unit ≡ true
+    → AsTypeUnit (type_unit_of order s p f.type_unit) (entry_unit order s p f)
 
 -- Where it stands, the compile_unit attribute is not resolved: with any other one, or none, the unit is the same, and so is the refusal.
 abbrev pub OtherNotResolved : Type 0
 OtherNotResolved =
-    (order : RunTimeEndian) (s : List ℕ) (i : NameIndex) (f g : Facts) → stands f.type_unit ≡ true → f.type_unit ≡ g.type_unit
-    → entry_unit order s i f ≡ entry_unit order s i g
+    (order : RunTimeEndian) (s : List ℕ) (p : Parts) (f g : Facts) → stands f.type_unit ≡ true → f.type_unit ≡ g.type_unit
+    → entry_unit order s p f ≡ entry_unit order s p g
 
 -- document 01's choice: the compile_unit attribute first
-unfoldable pub compile_unit_first : RunTimeEndian → List ℕ → NameIndex → Facts → Outcome ShownUnit
-compile_unit_first order s i f =
-    compile_shown order s i f.compile_unit
-    orNext type_shown order s i f.type_unit
-    orNext default_shown order s i
+unfoldable pub compile_unit_first : RunTimeEndian → List ℕ → Parts → Facts → Outcome ShownUnit
+compile_unit_first order s p f =
+    compile_shown order s p f.compile_unit
+    orNext type_shown order s p f.type_unit
+    orNext default_shown order s p
 
 -- where one of the two attributes stands, or none, the unit is that of document 01
 abbrev pub OneUnitAsBefore : Type 0
 OneUnitAsBefore =
-    (order : RunTimeEndian) (s : List ℕ) (i : NameIndex) (f : Facts) → stands f.type_unit && stands f.compile_unit ≡ false
-    → entry_unit order s i f ≡ compile_unit_first order s i f
+    (order : RunTimeEndian) (s : List ℕ) (p : Parts) (f : Facts) → stands f.type_unit && stands f.compile_unit ≡ false
+    → entry_unit order s p f ≡ compile_unit_first order s p f
 
 -- Computed. The lists of an index, which end at 20: the compile units 0x100 and 0x200; from 8 on the local type unit 0x300; from 12 on the foreign
 -- one, 0x0102030405060708. With C 2 they begin at 0, with C 1 at 4.
@@ -80,7 +82,7 @@ flagged = Some (record { form = 0x0c; value = NameAttributeValue.Flag true })
 
 -- the unit that is shown of an entry with this type_unit attribute and this compile_unit attribute
 abbrev pub unit_among : NameIndex → Option FirstAttribute → Option FirstAttribute → Outcome ShownUnit
-unit_among i type compile = entry_unit RunTimeEndian.Little lists i (record {
+unit_among i type compile = entry_unit RunTimeEndian.Little lists (parts i) (record {
   compile_unit = compile;
   type_unit = type;
   die_offset = None;

@@ -4,9 +4,9 @@ use Rattle.std.specs.Prelude.{ℕ}
 use Rattle.std.specs.Prelude.{Option, Some, None}
 use Rattle.reader.specs.Outcome.{Outcome, answered, refused, ◌>>=◌}
 use Rattle.reader.specs.declared.endianity.RunTimeEndian.{RunTimeEndian}
-use Rattle.index.specs.declared.layout.NameIndex.{NameIndex}
+use Rattle.index.specs.declared.layout.Parts.{Parts}
 use Rattle.names.specs.declared.units.NameTypeUnit.{NameTypeUnit}
-use Rattle.names.specs.Units.{default_compile_unit}
+use Rattle.names.specs.Units.{default_compile_unit_in}
 use Rattle.attributes.specs.declared.attribute.FirstAttribute.{FirstAttribute}
 use Rattle.attributes.specs.declared.facts.Facts.{Facts}
 use Rattle.attributes.specs.Meaning.{compile_unit_of, type_unit_of}
@@ -34,25 +34,6 @@ abbrev pub as_default_unit : Option DebugInfoOffset → ShownUnit
 as_default_unit (Some u) = unit_of 1 u.0
 as_default_unit None = unit_of 0 0
 
--- a section, in its byte order
-module _ (order : RunTimeEndian) (s : Section) where
-  -- the unit that the type_unit attribute names, and the one that the compile_unit attribute names; none where the entry has no such attribute
-  unfoldable pub type_shown : NameIndex → Option FirstAttribute → Outcome (Option ShownUnit)
-  type_shown i a = do
-    u ← type_unit_of order s i a
-    answered (as_type_unit u)
-
-  unfoldable pub compile_shown : NameIndex → Option FirstAttribute → Outcome (Option ShownUnit)
-  compile_shown i a = do
-    u ← compile_unit_of order s i a
-    answered (as_compile_unit u)
-
-  -- the default compile unit of the index, else no unit
-  unfoldable pub default_shown : NameIndex → Outcome ShownUnit
-  default_shown i = do
-    u ← default_compile_unit order s i
-    answered (as_default_unit u)
-
 infixr 5 ◌orNext◌
 -- this unit, or this refusal; only where there is no such unit, what comes next
 abbrev pub ◌orNext◌ : Outcome (Option ShownUnit) → Outcome ShownUnit → Outcome ShownUnit
@@ -60,9 +41,28 @@ abbrev pub ◌orNext◌ : Outcome (Option ShownUnit) → Outcome ShownUnit → O
 ◌orNext◌ (answered None) next = next
 ◌orNext◌ (refused n v) next = refused n v
 
--- the unit: of the type_unit attribute, to whose unit the DIE belongs, else of the compile_unit attribute, else the default compile unit, else none
-unfoldable pub entry_unit : RunTimeEndian → Section → NameIndex → Facts → Outcome ShownUnit
-entry_unit order s i f =
-    type_shown order s i f.type_unit
-    orNext compile_shown order s i f.compile_unit
-    orNext default_shown order s i
+-- a section, in its byte order, and an index of it whose parts are `p`
+module _ (order : RunTimeEndian) (s : Section) where
+  -- the unit that the type_unit attribute names, and the one that the compile_unit attribute names; none where the entry has no such attribute
+  unfoldable pub type_shown : Parts → Option FirstAttribute → Outcome (Option ShownUnit)
+  type_shown p a = do
+    u ← type_unit_of order s p a
+    answered (as_type_unit u)
+
+  unfoldable pub compile_shown : Parts → Option FirstAttribute → Outcome (Option ShownUnit)
+  compile_shown p a = do
+    u ← compile_unit_of order s p a
+    answered (as_compile_unit u)
+
+  -- the default compile unit of the index, else no unit
+  unfoldable pub default_shown : Parts → Outcome ShownUnit
+  default_shown p = do
+    u ← default_compile_unit_in order s p
+    answered (as_default_unit u)
+
+  -- the unit: of the type_unit attribute, to whose unit the DIE belongs, else of the compile_unit attribute, else the default compile unit, else none
+  unfoldable pub entry_unit : Parts → Facts → Outcome ShownUnit
+  entry_unit p f =
+      type_shown p f.type_unit
+      orNext compile_shown p f.compile_unit
+      orNext default_shown p
