@@ -37,7 +37,7 @@ use Rattle.entries.specs.Series.{first_entry, series_entry, entries_from, entrie
 use Rattle.entries.proofs.EntryLaws.{entry-offset, entries_forward, pool_end}
 
 -- an entry of a series is one of the pool
-series-entry : (order : RunTimeEndian) (s : List ℕ) (p : Parts) (at : ℕ) (e : Entry) → series_entry order s p at ≡ answered (Some e) → entry order s p at ≡ answered (Some e)
+pub series-entry : (order : RunTimeEndian) (s : List ℕ) (p : Parts) (at : ℕ) (e : Entry) → series_entry order s p at ≡ answered (Some e) → entry order s p at ≡ answered (Some e)
 unfolding series_entry
 series-entry order s p at e = other (eqb (left_at s at p.end) 0)
   where
@@ -121,7 +121,7 @@ moved_by p at (answered None) = record { answer = answered None; cursor = cursor
 moved_by p at (refused n v) = record { answer = refused n v; cursor = cursor_at p.end }
 
 -- the offset of an entry of a series, too
-series-offset : (order : RunTimeEndian) (s : List ℕ) (p : Parts) (at : ℕ) (e : Entry) → series_entry order s p at ≡ answered (Some e) → e.offset ≡ at - p.entry_pool
+pub series-offset : (order : RunTimeEndian) (s : List ℕ) (p : Parts) (at : ℕ) (e : Entry) → series_entry order s p at ≡ answered (Some e) → e.offset ≡ at - p.entry_pool
 series-offset order s p at e read = entry-offset order s p at e (series-entry order s p at e read)
 
 pub whole_moved : (order : RunTimeEndian) (s : List ℕ) (p : Parts) (c : NameEntryIter) → whole_step order s p c ≡ keeping c (do

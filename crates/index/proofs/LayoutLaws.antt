@@ -1,6 +1,6 @@
 -- Laws of the layout: how large the parts can be, and that they follow one another.
 use Prim.Native.Nat.{ℕ, zero, suc, ◌+◌, ◌-◌, ◌*◌, ◌≤◌, ◌<◌}
-use mathlib.Core.Path.{◌≡◌, refl, sym}
+use mathlib.Core.Path.{◌≡◌, refl, sym, ap, ◌∙◌}
 use mathlib.Core.Bool.{Bool, true, false, cond}
 use mathlib.Core.List.{List, [], ◌∷◌}
 use native.Mathlib.Omega.{arith}
@@ -16,7 +16,7 @@ use Rattle.index.specs.declared.layout.NameIndex.{NameIndex}
 use Rattle.index.specs.declared.layout.Parts.{Parts}
 use Rattle.index.specs.Sanity.{PartsFollow, PartsInside}
 use Rattle.index.specs.Words.{word_bytes}
-use Rattle.index.specs.Layout.{hash_bytes, sizes, places_from, place, parts, Fits, fitted}
+use Rattle.index.specs.Layout.{hash_bytes, sizes, places_from, place, parts, Fits, fitted, PartsFit}
 
 -- a word has at least four bytes, and at most eight
 pub words_least : (format : Format) (n : ℕ) → 4 * n ≤ word_bytes format n
@@ -97,3 +97,20 @@ parts-inside s i (pool, ends) j k h e =
     let before : place i 0 ≤ place i j = places_ascend i 0 j (omega arith) (omega arith) in
     let after : place i k ≤ place i 8 = places_ascend i k 8 e (omega arith) in
     (omega arith, places_ascend i j k h e, omega arith, ends)
+
+-- parts are those of the index that they hold
+pub own_index : (i : NameIndex) → (parts i).index ≡ i
+unfolding parts
+own_index i = refl
+
+pub parts_own : (s : List ℕ) (p : Parts) → PartsFit s p → p ≡ parts p.index
+parts_own s p given =
+    let (short, fits, same) = fitted-answered s p.index p (sym given) in
+    same
+
+-- what `fitted` answers fits
+pub fitted_own : (s : List ℕ) (i : NameIndex) (p : Parts) → answered p ≡ fitted s i → (p.index ≡ i) × PartsFit s p
+fitted_own s i p given =
+    let (short, fits, same) = fitted-answered s i p (sym given) in
+    let own : p.index ≡ i = ap (λ q. q.index) same ∙ own_index i in
+    (own, given ∙ ap (λ j. fitted s j) (sym own))

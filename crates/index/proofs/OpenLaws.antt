@@ -17,9 +17,9 @@ use Rattle.abbreviations.specs.Abbreviations.{parsed}
 use Rattle.abbreviations.proofs.AbbreviationLaws.{parsed_part}
 use Rattle.index.specs.declared.layout.NameIndex.{NameIndex}
 use Rattle.index.specs.declared.layout.Parts.{Parts}
-use Rattle.index.specs.Layout.{sizes, places_from, place, parts, Fits, fitted}
+use Rattle.index.specs.Layout.{sizes, places_from, place, parts, Fits, fitted, PartsFit}
 use Rattle.index.specs.Sanity.{OpenedFits, OpensInPart}
-use Rattle.index.proofs.LayoutLaws.{parts-follow, places_ascend, fitted-fits}
+use Rattle.index.proofs.LayoutLaws.{parts-follow, places_ascend, fitted-fits, fitted_own}
 use Rattle.index.specs.Open.{index_of, passed_over, cut_parts, opened, name_index}
 use Rattle.index.specs.Inner.{refuse_past, parts_inside}
 
@@ -91,6 +91,9 @@ pub opened_fitted : (s : List ℕ) (i : NameIndex) (p : Parts) → answered p �
 opened_fitted s i p e =
     let (short, fits, same) = opened_inside s i p (sym e) in
     rw same (sym (fitted-fits s i short fits))
+
+pub opened_own : (s : List ℕ) (i : NameIndex) (p : Parts) → answered p ≡ opened s i → PartsFit s p
+opened_own s i p e = let (own, fits) = fitted_own s i p (opened_fitted s i p e) in fits
 
 pub opened_fits : OpenedFits
 unfolding name_index parts

@@ -1,5 +1,5 @@
 -- Where the parts of an index lie: document 01, "Headers and layout"; DWARF 5, section 6.1.1.4. `s` is the section.
-use Rattle.std.specs.Prelude.{ℕ, ◌+◌, ◌*◌, ◌≤◌, cond, List, [], ◌∷◌, length, get_or, ltb, eqb}
+use Rattle.std.specs.Prelude.{ℕ, ◌≡◌, ◌+◌, ◌*◌, ◌≤◌, cond, List, [], ◌∷◌, length, get_or, ltb, eqb}
 use Rattle.reader.specs.Outcome.{Outcome, answered, ◌>>◌}
 use Rattle.reader.specs.declared.error.Error.TheVariants.{DoesNotFit, SectionTooLong}
 use Rattle.reader.specs.Errors.{longest, fail_if}
@@ -76,3 +76,7 @@ fitted s i = do
   fail_if (ltb (length s) i.end) DoesNotFit
   fail_if (ltb i.end (parts i).entry_pool) DoesNotFit
   answered (parts i)
+
+-- these are the parts of an index that fits: what an inner function requires that reads a hash table at bare places
+abbrev pub PartsFit : List ℕ → Parts → Type 0
+PartsFit s p = answered p ≡ fitted s p.index

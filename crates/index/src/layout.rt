@@ -26,8 +26,8 @@ pub struct NameIndex {
 }
 
 // An index with the place where each of its parts begins. Each ends where the next begins, and the pool ends at `end`. Inner functions are
-// given these of an index that fits, so that the call above them tests once that it does (`fit`).
-#[derive(Clone, Copy)]
+// given these of an index that fits, so that the call above them tests once that it does (`fit`). The default are those of the default index.
+#[derive(Clone, Copy, Default)]
 pub struct Parts {
     pub index: NameIndex,
     pub compile_unit_list: usize,

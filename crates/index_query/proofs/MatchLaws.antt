@@ -7,24 +7,21 @@ use Rattle.std.specs.Prelude.{nat_eq}
 use mathlib.Core.List.{List, [], ◌∷◌}
 use native.Mathlib.Omega.{arith}
 use lib.ListN.{length, take, drop, length-take, length-drop}
-use lib.Dec.{ltb, eqb}
+use lib.Dec.{eqb}
 use borrow.Author.Tests.{eqb-true, eq-eqb}
-use Rattle.reader.specs.Outcome.{Outcome, answered, refused, refuse_if}
-use Rattle.reader.specs.Errors.{longest}
+use Rattle.reader.specs.Outcome.{Outcome, answered, refused}
 use Rattle.reader.specs.Listing.{Listing, ended, broken, item, or_broken}
 use Rattle.reader.specs.declared.endianity.RunTimeEndian.{RunTimeEndian}
 use Rattle.reader.specs.declared.common.NameTableIndex.{NameTableIndex}
 use Rattle.reader.proofs.ListLaws.{false_true}
-use Rattle.reader.proofs.OutcomeLaws.{bind_answered, then_answered, same_answer}
-use Rattle.index.specs.declared.layout.NameIndex.{NameIndex}
-use Rattle.index.specs.Layout.{fitted}
+use Rattle.reader.proofs.OutcomeLaws.{bind_answered}
+use Rattle.index.specs.declared.layout.Parts.{Parts}
 use Rattle.strings.specs.declared.Str.{Str}
 use Rattle.strings.proofs.StringLaws.{str_answered}
-use Rattle.names.specs.Names.{name_string, name_string_offset}
-use Rattle.index_query.specs.Candidates.{candidates_from, candidates_at}
+use Rattle.names.specs.Names.{name_string_in, name_string_offset_in}
 use Rattle.index_query.specs.Sanity.{SameExactly}
 use Rattle.index_query.specs.Matching.{same_bytes, text_is, name_matches, matching}
-use Rattle.index_query.specs.Inner.{matches_at}
+use Rattle.index_query.specs.Inner.{candidates_from, matches_from}
 
 -- lists of other lengths are not the same
 pub other_length : (a b : List ℕ) → (length a ≡ length b → ⊥) → same_bytes a b ≡ false
@@ -71,61 +68,48 @@ same_pointwise (a ∷ rest) (b ∷ bs) = tested (eqb a b) (same_pointwise rest b
     tested false e = refl
 
 -- a name's string lies inside .debug_str
-pub string_inside : (order : RunTimeEndian) (s strs : List ℕ) (i : NameIndex) (name : NameTableIndex) (t : Str) → name_string order s strs i name ≡ answered t → t.start + t.len < length strs
-unfolding name_string
-string_inside order s strs i name t e =
-    let (u, short, e₁) = then_answered (refuse_if (ltb longest (length s)) 13 0) _ t e in
-    let (v, short₂, e₂) = then_answered (refuse_if (ltb longest (length strs)) 13 0) _ t e₁ in
-    let (offset, read, e₃) = bind_answered (name_string_offset order s i name) _ t e₂ in
-    let (begins, long, inside) = str_answered strs offset.0 t e₃ in
+pub string_inside : (order : RunTimeEndian) (s strs : List ℕ) (p : Parts) (name : NameTableIndex) (t : Str) → name_string_in order s strs p name ≡ answered t → t.start + t.len < length strs
+unfolding name_string_in
+string_inside order s strs p name t e =
+    let (offset, read, found) = bind_answered (name_string_offset_in order s p name) _ t e in
+    let (begins, long, inside) = str_answered strs offset.0 t found in
     inside
 
 -- the string of a name is another where it has another length
-pub text_other : (order : RunTimeEndian) (s strs : List ℕ) (i : NameIndex) (name : NameTableIndex) (t : Str) (text : List ℕ) → name_string order s strs i name ≡ answered t → (t.len ≡ length text → ⊥) → text_is strs text t ≡ false
+pub text_other : (order : RunTimeEndian) (s strs : List ℕ) (p : Parts) (name : NameTableIndex) (t : Str) (text : List ℕ) → name_string_in order s strs p name ≡ answered t → (t.len ≡ length text → ⊥) → text_is strs text t ≡ false
 unfolding text_is
-text_other order s strs i name t text e other =
-    let inside = string_inside order s strs i name t e in
+text_other order s strs p name t text e other =
+    let inside = string_inside order s strs p name t e in
     let long : length (take t.len (drop t.start strs)) ≡ t.len = omega (arith, length-take t.len (drop t.start strs), length-drop t.start strs) in
     other_length (take t.len (drop t.start strs)) text (λ h. other (sym long ∙ h))
 
-module _ (order : RunTimeEndian) (s strs : List ℕ) (i : NameIndex) (hash : ℕ) (text : List ℕ) where
+module _ (order : RunTimeEndian) (s strs : List ℕ) (hash : ℕ) (text : List ℕ) (p : Parts) where
   -- the names that match from a candidate on: it, if its string is the name, and those after it
   abbrev pub matched_after : ℕ → ℕ → Outcome Bool → Listing ℕ
-  matched_after name after o = or_broken o λ holds. cond holds (item name (matches_at order s strs i hash text after)) (matches_at order s strs i hash text after)
+  matched_after name after o = or_broken o λ holds. cond holds (item name (matches_from order s strs hash text p after)) (matches_from order s strs hash text p after)
 
-  pub matches_name : (from after name : ℕ) → answered (name ∷ candidates_from order s i hash after) ≡ candidates_at order s i hash from
-      → matches_at order s strs i hash text from ≡ matched_after name after (name_matches order s strs i text name)
-  unfolding matches_at candidates_at matching
-  matches_name from after name e =
-      let (p, fits, rest) = then_answered (fitted s i) _ (name ∷ candidates_from order s i hash after) (sym e) in
-      rw (sym e, fits)
+  module _ (from after name : ℕ) (next : name ∷ candidates_from order s hash p after ≡ candidates_from order s hash p from) where
+    matches_name : matches_from order s strs hash text p from ≡ matched_after name after (name_matches order s strs text p name)
+    unfolding matches_from matching
+    matches_name = rw (sym next)
 
-  -- so where its string is the name, where it is another, and where it cannot be read
-  pub name_found : (from after name : ℕ) → answered (name ∷ candidates_from order s i hash after) ≡ candidates_at order s i hash from → answered true ≡ name_matches order s strs i text name
-      → matches_at order s strs i hash text from ≡ item name (matches_at order s strs i hash text after)
-  name_found from after name e holds = rw (matches_name from after name e, sym holds)
+    -- so where its string is the name, where it is another, and where it cannot be read
+    pub name_found : answered true ≡ name_matches order s strs text p name → matches_from order s strs hash text p from ≡ item name (matches_from order s strs hash text p after)
+    name_found holds = rw (matches_name, sym holds)
 
-  pub name_passed : (from after name : ℕ) → answered (name ∷ candidates_from order s i hash after) ≡ candidates_at order s i hash from → answered false ≡ name_matches order s strs i text name
-      → matches_at order s strs i hash text from ≡ matches_at order s strs i hash text after
-  name_passed from after name e holds = rw (matches_name from after name e, sym holds)
+    pub name_passed : answered false ≡ name_matches order s strs text p name → matches_from order s strs hash text p from ≡ matches_from order s strs hash text p after
+    name_passed holds = rw (matches_name, sym holds)
 
-  pub name_refused : (from after name n v : ℕ) → answered (name ∷ candidates_from order s i hash after) ≡ candidates_at order s i hash from → refused n v ≡ name_matches order s strs i text name
-      → matches_at order s strs i hash text from ≡ broken n v
-  name_refused from after name n v e holds = rw (matches_name from after name e, sym holds)
+    pub name_refused : (n v : ℕ) → refused n v ≡ name_matches order s strs text p name → matches_from order s strs hash text p from ≡ broken n v
+    name_refused n v holds = rw (matches_name, sym holds)
 
-  pub matches_none : (from : ℕ) → answered [] ≡ candidates_at order s i hash from → matches_at order s strs i hash text from ≡ ended
-  unfolding matches_at matching
+  pub matches_none : (from : ℕ) → [] ≡ candidates_from order s hash p from → matches_from order s strs hash text p from ≡ ended
+  unfolding matches_from matching
   matches_none from e = rw (sym e)
 
-  pub matches_refused : (from n v : ℕ) → refused n v ≡ candidates_at order s i hash from → matches_at order s strs i hash text from ≡ broken n v
-  unfolding matches_at
-  matches_refused from n v e = rw (sym e)
-
 -- after a candidate there is one fewer
-pub fewer_left : (order : RunTimeEndian) (s : List ℕ) (i : NameIndex) (hash from after name : ℕ) → answered (name ∷ candidates_from order s i hash after) ≡ candidates_at order s i hash from
-    → length (candidates_from order s i hash after) < length (candidates_from order s i hash from)
-unfolding candidates_at
-fewer_left order s i hash from after name e =
-    let (p, fits, rest) = then_answered (fitted s i) _ (name ∷ candidates_from order s i hash after) (sym e) in
-    let long : length (candidates_from order s i hash from) ≡ suc (length (candidates_from order s i hash after)) = ap (λ l. length l) (same_answer rest) in
+pub fewer_left : (order : RunTimeEndian) (s : List ℕ) (hash : ℕ) (p : Parts) (from after name : ℕ) → name ∷ candidates_from order s hash p after ≡ candidates_from order s hash p from
+    → length (candidates_from order s hash p after) < length (candidates_from order s hash p from)
+fewer_left order s hash p from after name e =
+    let long : suc (length (candidates_from order s hash p after)) ≡ length (candidates_from order s hash p from) = ap (λ l. length l) e in
     omega arith

@@ -4,9 +4,9 @@ use Rattle.std.specs.Prelude.{ℕ, Bool, true, false, cond, List, [], ◌∷◌,
 use Rattle.reader.specs.Outcome.{Outcome, answered, ◌>>=◌}
 use Rattle.reader.specs.Listing.{Listing, ended, item, or_broken}
 use Rattle.reader.specs.declared.endianity.RunTimeEndian.{RunTimeEndian}
-use Rattle.index.specs.declared.layout.NameIndex.{NameIndex}
+use Rattle.index.specs.declared.layout.Parts.{Parts}
 use Rattle.strings.specs.declared.Str.{Str}
-use Rattle.names.specs.Names.{name_string}
+use Rattle.names.specs.Names.{name_string_in}
 use Rattle.reader.specs.Parts.{Section}
 
 -- whether two lists of bytes are the same
@@ -25,8 +25,10 @@ unfoldable pub matching : (ℕ → Outcome Bool) → List ℕ → Listing ℕ
 matching test [] = ended
 matching test (n ∷ ns) = or_broken (test n) λ holds. cond holds (item n (matching test ns)) (matching test ns)
 
--- whether the string of a name is the one that is asked for; a string that cannot be read is refused
-unfoldable pub name_matches : RunTimeEndian → Section → List ℕ → NameIndex → List ℕ → ℕ → Outcome Bool
-name_matches order s strs i text name = do
-  t ← name_string order s strs i (record { 0 = name })
-  answered (text_is strs text t)
+-- a section with its strings, in its byte order, and the name that is asked for
+module _ (order : RunTimeEndian) (s strs : Section) (text : List ℕ) where
+  -- whether the string of a name is that name; a string that cannot be read is refused
+  unfoldable pub name_matches : Parts → ℕ → Outcome Bool
+  name_matches p name = do
+    t ← name_string_in order s strs p (record { 0 = name })
+    answered (text_is strs text t)

@@ -1,13 +1,14 @@
 // The candidates of a hash in an index: the names that `find_by_hash` lists up to the first end; without a hash table all names. A number
 // stands for the candidates from that name on.
-// (order, section, index) stay parameters: with a struct that lends the section, contracts are no plainer (docs/DECISIONS.md).
+// (order, section, ..) stay parameters: with a struct that lends the section, contracts are no plainer (docs/DECISIONS.md).
 ghost use Rattle.std.specs.Prelude.{◌≡◌};
 ghost use Rattle.reader.specs.Answers.{outcome_as};
-ghost use Rattle.index_query.specs.Candidates.{candidates, candidates_from, candidates_at};
-ghost use Rattle.index_query.specs.Answers.{candidates_left};
+ghost use Rattle.index.specs.Layout.{PartsFit};
+ghost use Rattle.index_query.specs.Candidates.{candidates};
+ghost use Rattle.index_query.specs.Inner.{candidates_from, candidates_left};
 
-use hashes::{bucket_of, first_name, pass_over};
-use index::{NameIndex, fit};
+use hashes::{bucket_of, first_in_bucket, pass_over};
+use index::Parts;
 use reader::{Error, NameTableIndex, RunTimeEndian};
 
 // A candidate, with the number from which on the next is looked for. (`Found` of `hashes` may hold no name; here that is the `None` of the answer.)
@@ -18,43 +19,44 @@ pub struct Candidate {
 }
 
 // Where the candidates of a hash begin.
-#[tactic(auto, using(crate::proofs::CandidateLaws::all_names, crate::proofs::CandidateLaws::first_from), unfolding(crate::specs::Candidates::candidates, hashes::specs::Lookups::find_by_hash, hashes::specs::Lookups::find_by_bucket))]
+#[tactic(auto, using(crate::proofs::CandidateLaws::all_names, crate::proofs::CandidateLaws::first_from), unfolding(crate::specs::Candidates::candidates))]
 pub fn first_candidate(
     order: RunTimeEndian,
     section: &[u8],
-    index: NameIndex,
     hash: u32,
+    p: Parts,
 ) -> Result<u32, Error>
-    ensures { outcome_as (candidates_from order section.now index hash) result ≡ candidates order section.now index hash }
+    requires { PartsFit section.now p }
+    ensures { outcome_as (candidates_from order section.now hash p) result ≡ candidates order section.now hash p }
 {
-    let p = fit(section, index)?;
-    if index.bucket_count == 0 {
+    if p.index.bucket_count == 0 {
         return Ok(0);
     }
-    let first = first_name(order, section, p, bucket_of(index, hash))?;
-    Ok(first.unwrap_or(index.name_count))
+    let first = first_in_bucket(order, section, p, bucket_of(p.index, hash))?;
+    Ok(first.unwrap_or(p.index.name_count))
 }
 
 // The first candidate from a number on.
-#[tactic(auto, using(crate::proofs::CandidateLaws::no_name, crate::proofs::CandidateLaws::next_name, crate::proofs::CandidateLaws::stored_name, crate::proofs::CandidateLaws::stored_none, crate::proofs::CandidateLaws::has_buckets, hashes::proofs::TableLaws::hashes_within), unfolding(crate::specs::Candidates::candidates_at))]
+#[tactic(auto, using(crate::proofs::CandidateLaws::no_name, crate::proofs::CandidateLaws::next_name, crate::proofs::CandidateLaws::stored_name, crate::proofs::CandidateLaws::stored_none, crate::proofs::CandidateLaws::has_buckets, crate::proofs::CandidateLaws::hashes_inside))]
 pub fn next_candidate(
     order: RunTimeEndian,
     section: &[u8],
-    index: NameIndex,
     hash: u32,
+    p: Parts,
     from: u32,
-) -> Result<Option<Candidate>, Error>
-    ensures { outcome_as (candidates_left order section.now index hash) result ≡ candidates_at order section.now index hash from }
+) -> Option<Candidate>
+    requires { PartsFit section.now p }
+    ensures { candidates_left order section.now hash p result ≡ candidates_from order section.now hash p from }
 {
-    let p = fit(section, index)?;
+    let index = p.index;
     if index.bucket_count == 0 {
         if index.name_count <= from {
-            return Ok(None);
+            return None;
         }
-        return Ok(Some(Candidate {
+        return Some(Candidate {
             name: NameTableIndex(from),
             next: from + 1,
-        }));
+        });
     }
     let found = pass_over(
         order,
@@ -65,10 +67,8 @@ pub fn next_candidate(
         hash,
         from,
     );
-    Ok(
-        found.name.map(|name| Candidate {
-            name: NameTableIndex(name),
-            next: found.next,
-        }),
-    )
+    found.name.map(|name| Candidate {
+        name: NameTableIndex(name),
+        next: found.next,
+    })
 }

@@ -3,13 +3,13 @@
 ghost use Rattle.std.specs.Prelude.{◌≡◌};
 ghost use Rattle.reader.specs.Answers.{outcome};
 ghost use Rattle.reader.specs.Listing.{left_by};
+ghost use Rattle.index.specs.Layout.{PartsFit};
 ghost use Rattle.index_query.specs.Matching.{name_matches};
-ghost use Rattle.index_query.specs.Inner.{matches_at};
-ghost use Rattle.index_query.specs.Answers.{matches_left};
+ghost use Rattle.index_query.specs.Inner.{matches_from, matches_left};
 
 use crate::candidates::{Candidate, next_candidate};
-use index::NameIndex;
-use names::name_string;
+use index::Parts;
+use names::name_string_in;
 use reader::{Error, NameTableIndex, RunTimeEndian};
 
 // Whether the string of a name of the index is `name`. A string that cannot be read is refused.
@@ -18,13 +18,13 @@ pub fn name_matches(
     order: RunTimeEndian,
     section: &[u8],
     strings: &[u8],
-    index: NameIndex,
-    candidate: NameTableIndex,
     name: &[u8],
+    p: Parts,
+    candidate: NameTableIndex,
 ) -> Result<bool, Error>
-    ensures { outcome result ≡ name_matches order section.now strings.now index name.now candidate.0 }
+    ensures { outcome result ≡ name_matches order section.now strings.now name.now p candidate.0 }
 {
-    let string = name_string(order, section, strings, index, candidate)?;
+    let string = name_string_in(order, section, strings, p, candidate)?;
     if string.len != name.len() {
         return Ok(false);
     }
@@ -32,26 +32,25 @@ pub fn name_matches(
 }
 
 // The first name that matches among the candidates from a number on.
-#[tactic(auto, using(crate::proofs::MatchLaws::name_found, crate::proofs::MatchLaws::name_passed, crate::proofs::MatchLaws::name_refused, crate::proofs::MatchLaws::matches_none, crate::proofs::MatchLaws::matches_refused, crate::proofs::MatchLaws::fewer_left))]
+#[tactic(auto, using(crate::proofs::MatchLaws::name_found, crate::proofs::MatchLaws::name_passed, crate::proofs::MatchLaws::name_refused, crate::proofs::MatchLaws::matches_none, crate::proofs::MatchLaws::fewer_left))]
 pub fn next_match(
     order: RunTimeEndian,
     section: &[u8],
     strings: &[u8],
-    index: NameIndex,
     hash: u32,
     name: &[u8],
+    p: Parts,
     from: u32,
 ) -> Result<Option<Candidate>, Error>
-    ensures { left_by result (matches_left order section.now strings.now index hash name.now) ≡ matches_at order section.now strings.now index hash name.now from }
+    requires { PartsFit section.now p }
+    ensures { left_by result (matches_left order section.now strings.now hash name.now p) ≡ matches_from order section.now strings.now hash name.now p from }
 {
     let mut at = from;
-    loop {
-        let Some(candidate) = next_candidate(order, section, index, hash, at)? else {
-            return Ok(None);
-        };
-        if name_matches(order, section, strings, index, candidate.name, name)? {
+    while let Some(candidate) = next_candidate(order, section, hash, p, at) {
+        if name_matches(order, section, strings, name, p, candidate.name)? {
             return Ok(Some(candidate));
         }
         at = candidate.next;
     }
+    Ok(None)
 }

@@ -10,8 +10,8 @@ ghost use Rattle.std.specs.Prelude.{◌≡◌, ◌+◌, ◌<◌, ◌^◌};
 ghost use Rattle.reader.specs.Answers.{outcome};
 ghost use Rattle.reader.specs.Listing.{counted, items};
 ghost use Rattle.section_records.specs.Inner.{query_left};
-ghost use Rattle.query_plan.specs.Inner.{planned, writing_left, nothing_to_write};
-ghost use Rattle.query_plan.specs.Answers.{write_left, plan_outcome};
+ghost use Rattle.index.specs.Layout.{PartsFit};
+ghost use Rattle.query_plan.specs.Inner.{planned, writing_left, plan_outcome, write_left, nothing_to_write, Ready};
 
 use reader::{Error, RunTimeEndian, too_long};
 use records::Record;
@@ -44,7 +44,7 @@ fn count_from(
     hash: u32,
     name: &[u8],
 ) -> Result<u64, Error>
-    requires { items (query_left order section.now strings.now hash name.now from) < 2 ^ 64 }
+    requires { (items (query_left order section.now strings.now hash name.now from) < 2 ^ 64) × PartsFit section.now from.parts }
     ensures { outcome result ≡ counted (query_left order section.now strings.now hash name.now from) }
 {
     let mut cursor = from;
@@ -70,7 +70,7 @@ fn nothing(answer: Result<u64, Error>) -> Plan
 }
 
 // Counts the records of the section, and keeps the first.
-#[tactic(auto, unfolding(crate::specs::Inner::writing_left), using(crate::proofs::PlanLaws::planned_by, crate::proofs::PlanLaws::queried_ended, crate::proofs::PlanLaws::queried_broken, crate::proofs::PlanLaws::queried_item))]
+#[tactic(auto, unfolding(crate::specs::Inner::writing_left), using(crate::proofs::PlanLaws::planned_by, crate::proofs::PlanLaws::queried_ended, crate::proofs::PlanLaws::queried_broken, crate::proofs::PlanLaws::queried_item, section_records::proofs::WalkLaws::first_fits))]
 pub fn plan_query(
     order: RunTimeEndian,
     section: &[u8],
@@ -78,7 +78,8 @@ pub fn plan_query(
     hash: u32,
     name: &[u8],
 ) -> Plan
-    ensures { plan_outcome order section.now strings.now hash name.now result ≡ planned order section.now strings.now hash name.now }
+    ensures plan { plan_outcome order section.now strings.now hash name.now result ≡ planned order section.now strings.now hash name.now }
+    ensures ready { Ready section.now result.writing }
 {
     if too_long(section) {
         return nothing(Err(Error::SectionTooLong));
@@ -115,7 +116,9 @@ impl Writing {
         hash: u32,
         name: &[u8],
     ) -> Option<Record>
-        ensures { write_left result (writing_left order section.now strings.now hash name.now self.new) ≡ writing_left order section.now strings.now hash name.now self.old }
+        requires { Ready section.now self.old }
+        ensures left { write_left result (writing_left order section.now strings.now hash name.now self.new) ≡ writing_left order section.now strings.now hash name.now self.old }
+        ensures ready { Ready section.now self.new }
     {
         if self.left == 0 {
             return None;

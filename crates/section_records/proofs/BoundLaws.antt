@@ -1,7 +1,7 @@
 -- Laws of squares, and how many records a section can have.
 use Prim.Native.Nat.{ℕ, zero, suc, ◌+◌, ◌-◌, ◌*◌, ◌^◌, ◌≤◌, ◌<◌}
 use native.Mathlib.Nat.{mul-add, add-mul, mul_comm, mul_assoc, mul-le-mul}
-use mathlib.Core.Path.{◌≡◌, refl, ap}
+use mathlib.Core.Path.{◌≡◌, refl, sym, ap}
 use native.Mathlib.Omega.{arith}
 use mathlib.Core.List.{List}
 use Rattle.std.specs.Prelude.{Some, None}
@@ -17,11 +17,12 @@ use Rattle.headers.specs.Header.{header}
 use Rattle.headers.specs.Headers.{header_at, headers_from}
 use Rattle.headers.proofs.HeaderLaws.{header-fits, header-begins, headers_step}
 use Rattle.index.specs.declared.layout.NameIndex.{NameIndex}
-use Rattle.index.specs.Layout.{parts, place, sizes, word_bytes}
-use Rattle.index.specs.Open.{index_of, name_index}
-use Rattle.index.proofs.LayoutLaws.{words_least, parts-follow, places_ascend}
-use Rattle.index.proofs.OpenLaws.{opened_fits}
-use Rattle.entries.specs.Sanity.{pool_length}
+use Rattle.index.specs.Words.{word_bytes}
+use Rattle.index.specs.Layout.{parts, place, sizes}
+use Rattle.index.specs.declared.layout.Parts.{Parts}
+use Rattle.index.specs.Open.{index_of, opened}
+use Rattle.index.proofs.LayoutLaws.{words_least, parts-follow, places_ascend, own_index, fitted-answered}
+use Rattle.index.proofs.OpenLaws.{opened_fitted}
 use Rattle.records.specs.declared.record.Record.{Record}
 use Rattle.index_query.specs.Records.{index_records}
 use Rattle.index_query.proofs.RecordLaws.{index-items}
@@ -67,7 +68,7 @@ products_square a b = by_order (leb a b) refl
 
 -- the strings, the entry offsets and the pool of an index lie beside one another: with N names and a pool of P bytes, 8 N + P is at most
 -- the length of its parts
-names_and_pool : (i : NameIndex) → (parts i).entry_pool ≤ i.end → 8 * i.name_count + pool_length i ≤ i.end - i.begin
+names_and_pool : (i : NameIndex) → (parts i).entry_pool ≤ i.end → 8 * i.name_count + ((parts i).end - (parts i).entry_pool) ≤ i.end - i.begin
 unfolding parts sizes
 names_and_pool i inside =
     let (first, follow) = parts-follow i in
@@ -80,44 +81,48 @@ names_and_pool i inside =
 
 -- so its records are bounded by the square of that length
 index_square : (order : RunTimeEndian) (s strs : List ℕ) (hash : ℕ) (text : List ℕ) (offset : ℕ) (i : NameIndex) → (parts i).entry_pool ≤ i.end
-    → 32 * items (index_records order s strs hash text offset i) ≤ (i.end - i.begin) * (i.end - i.begin)
+    → 32 * items (index_records order s strs hash text offset (parts i)) ≤ (i.end - i.begin) * (i.end - i.begin)
 index_square order s strs hash text offset i inside =
     let most = names_and_pool i inside in
     let square = mul-le-mul most most in
+    let few = index-items order s strs hash text offset (parts i) in
+    let own : (parts i).index.name_count * ((parts i).end - (parts i).entry_pool) ≡ i.name_count * ((parts i).end - (parts i).entry_pool) =
+    ap (λ j. j.name_count * ((parts i).end - (parts i).entry_pool)) (own_index i) in
     omega (
       arith,
-      index-items order s strs hash text offset i,
-      products_square (8 * i.name_count) (pool_length i),
-      mul_assoc 8 i.name_count (pool_length i),
+      few,
+      own,
+      products_square (8 * i.name_count) ((parts i).end - (parts i).entry_pool),
+      mul_assoc 8 i.name_count ((parts i).end - (parts i).entry_pool),
       square,
     )
 
 module _ (order : RunTimeEndian) (s strs : List ℕ) (hash : ℕ) (text : List ℕ) where
   -- the records of a header, and of those after it, where these are bounded
   opened_square : (at : ℕ) (h : NameIndexHeader) → header order s at ≡ answered h → (rest : Listing Record) → 32 * items rest ≤ (length s - h.content.end) * (length s - h.content.end)
-      → 32 * items (followed_by (or_broken (name_index s h) (index_records order s strs hash text h.offset.0)) rest) ≤ (length s - at) * (length s - at)
+      → 32 * items (followed_by (or_broken (opened s (index_of h)) (index_records order s strs hash text h.offset.0)) rest) ≤ (length s - at) * (length s - at)
   unfolding items followed_by index_of
-  opened_square at h read rest more = by_index (name_index s h) refl
+  opened_square at h read rest more = by_index (opened s (index_of h)) refl
     where
-      by_index : (o : Outcome NameIndex) → name_index s h ≡ o → 32 * items (followed_by (or_broken o (index_records order s strs hash text h.offset.0)) rest) ≤ (length s - at) * (length s - at)
-      by_index (answered i) opened =
-          let (short, (pool, inside), same) = opened_fits s h i opened in
+      by_index : (o : Outcome Parts) → opened s (index_of h) ≡ o → 32 * items (followed_by (or_broken o (index_records order s strs hash text h.offset.0)) rest) ≤ (length s - at) * (length s - at)
+      by_index (answered p) opens =
+          let given = opened_fitted s (index_of h) p (sym opens) in
+          let (short, (pool, inside), same) = fitted-answered s (index_of h) p (sym given) in
           let (ahead, begins, ends) = header-fits order s at h read in
-          let first : i.begin ≡ h.content.at = ap (λ i. i.begin) same in
-          let last : i.end ≡ h.content.end = ap (λ i. i.end) same in
           let past = header-begins order s at h read in
-          let within : i.end - i.begin ≤ h.content.end - at = omega arith in
+          let within : (index_of h).end - (index_of h).begin ≤ h.content.end - at = omega arith in
           let sum : (h.content.end - at) + (length s - h.content.end) ≡ length s - at = omega arith in
-          omega (
+          rw same
+          (omega (
             arith,
-            followed-items (index_records order s strs hash text h.offset.0 i) rest,
-            index_square order s strs hash text h.offset.0 i pool,
+            followed-items (index_records order s strs hash text h.offset.0 (parts (index_of h))) rest,
+            index_square order s strs hash text h.offset.0 (index_of h) pool,
             mul-le-mul within within,
             squares_sum (h.content.end - at) (length s - h.content.end),
             ap (λ n. n * n) sum,
             more,
-          )
-      by_index (refused n v) opened = omega arith
+          ))
+      by_index (refused n v) opens = omega arith
 
   -- the headers from a place on, by what is left of the section
   headers_decided : (at : ℕ) → ((h : NameIndexHeader) → header order s at ≡ answered h → 32 * items (headers_left order s strs hash text h.content.end) ≤ (length s - h.content.end) * (length s - h.content.end))

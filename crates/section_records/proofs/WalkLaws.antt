@@ -18,21 +18,21 @@ use Rattle.headers.specs.declared.header.NameIndexHeader.{NameIndexHeader}
 use Rattle.headers.specs.Header.{header_cut, header_body, header}
 use Rattle.headers.specs.Headers.{header_at, headers_from}
 use Rattle.headers.proofs.HeaderLaws.{cut-forward, cut-offset, body_answered, headers_step}
-use Rattle.index.specs.Layout.{no_index, parts, place, places_from, sizes, word_bytes, hash_bytes, fitted}
-use Rattle.index.specs.Open.{name_index}
-use Rattle.index.specs.declared.layout.NameIndex.{NameIndex}
-use Rattle.index.proofs.LayoutLaws.{fitted-fits}
-use Rattle.index.proofs.OpenLaws.{opened_fits}
+use Rattle.index.specs.Words.{word_bytes}
+use Rattle.index.specs.Layout.{no_index, parts, place, places_from, sizes, hash_bytes, PartsFit}
+use Rattle.index.specs.declared.layout.Parts.{Parts}
+use Rattle.index.specs.Open.{index_of, opened}
+use Rattle.index.proofs.LayoutLaws.{fitted-fits, own_index}
+use Rattle.index.proofs.OpenLaws.{opened_own}
 use Rattle.hashes.specs.Table.{names_from}
 use Rattle.records.specs.declared.record.Record.{Record}
 use Rattle.entries.proofs.EntryLaws.{pool_end}
 use Rattle.index_query.specs.declared.series.IndexIter.{IndexIter}
-use Rattle.index_query.specs.Candidates.{candidates_from, candidates_at}
 use Rattle.index_query.specs.Matching.{matching}
-use Rattle.index_query.specs.Inner.{matches_at}
+use Rattle.index_query.specs.Inner.{candidates_from, matches_from}
 use Rattle.index_query.specs.Records.{all_series, index_records}
-use Rattle.index_query.specs.Inner.{records_at, index_left}
-use Rattle.index_query.proofs.RecordLaws.{places_small, records-ended, left_fits}
+use Rattle.index_query.specs.Inner.{index_left}
+use Rattle.index_query.proofs.RecordLaws.{places_small, records-ended, short_fits}
 use Rattle.section_records.specs.declared.QueryIter.{QueryIter}
 use Rattle.section_records.specs.Records.{header_records, headers_left, section_records}
 use Rattle.section_records.specs.Inner.{query_left, first_record}
@@ -46,28 +46,42 @@ header_read order s at c h split body =
     (offset ∙ cut-offset order s at c (sym split), omega arith, omega arith)
 
 -- and where its index opens, the place has 32 bits
-pub offset_small : (order : RunTimeEndian) (s : List ℕ) (at : ℕ) (c : HeaderCut) (h : NameIndexHeader) (i : NameIndex) → answered c ≡ header_cut order s at → answered h ≡ header_body order s c
-    → answered i ≡ name_index s h → h.offset.0 < 2 ^ 32
-offset_small order s at c h i split body opened =
+pub offset_small : (order : RunTimeEndian) (s : List ℕ) (at : ℕ) (c : HeaderCut) (h : NameIndexHeader) (p : Parts) → answered c ≡ header_cut order s at → answered h ≡ header_body order s c
+    → answered p ≡ opened s (index_of h) → h.offset.0 < 2 ^ 32
+offset_small order s at c h p split body opened =
     let (here, past, inside) = header_read order s at c h split body in
-    let (short, fits, same) = opened_fits s h i (sym opened) in
+    let short = short_fits s p (opened_own s (index_of h) p opened) in
     omega (arith, places_small)
 
--- the index that is open before the first header has no records
-no_index_fits : (s : List ℕ) → length s ≤ longest → fitted s no_index ≡ answered (parts no_index)
+-- the index that is open before the first header has no parts, and no records
+pub no_parts : parts no_index ≡ record {
+  index = no_index;
+  compile_unit_list = 0;
+  local_type_unit_list = 0;
+  foreign_type_unit_list = 0;
+  bucket_data = 0;
+  hash_table_data = 0;
+  name_table_data = 0;
+  entry_offset_data = 0;
+  abbreviation_table = 0;
+  entry_pool = 0;
+  end = 0;
+}
 unfolding no_index parts place places_from sizes word_bytes hash_bytes
-no_index_fits s short = fitted-fits s no_index short (omega arith, omega arith)
+no_parts = refl
 
-no_index_left : (order : RunTimeEndian) (s strs : List ℕ) (hash : ℕ) (text : List ℕ) (c : IndexIter) → c.at ≡ 0 → c.next ≡ 0 → length s ≤ longest → index_left order s strs hash text 0 no_index c ≡ ended
-unfolding no_index records_at matches_at candidates_at candidates_from names_from numbers_from all_series matching followed_by
-no_index_left order s strs hash text c at next short =
-    left_fits order s strs hash text 0 no_index (parts no_index) c (sym (no_index_fits s short))
-    ∙ rw (at ∙ sym (pool_end no_index), records-ended order s 0 no_index (parts no_index) c.name.0, next, no_index_fits s short)
+pub first_fits : (s : List ℕ) → length s ≤ longest → PartsFit s first_record.parts
+unfolding first_record no_index parts place places_from sizes word_bytes hash_bytes
+first_fits s short = sym (fitted-fits s no_index short (omega arith, omega arith))
+
+no_index_left : (order : RunTimeEndian) (s strs : List ℕ) (hash : ℕ) (text : List ℕ) (c : IndexIter) → c.at ≡ 0 → c.next ≡ 0 → index_left order s strs hash text 0 (parts no_index) c ≡ ended
+unfolding index_left no_index matches_from candidates_from names_from numbers_from all_series matching followed_by
+no_index_left order s strs hash text c at next = rw (at ∙ sym (pool_end no_index), records-ended order s 0 (parts no_index) c.name.0, next, own_index no_index)
 
 module _ (order : RunTimeEndian) (s strs : List ℕ) (hash : ℕ) (text : List ℕ) where
   -- the records of a header that was read, and of those after it
   abbrev pub opened_then : NameIndexHeader → Listing Record
-  opened_then h = followed_by (or_broken (name_index s h) (index_records order s strs hash text h.offset.0)) (headers_left order s strs hash text h.content.end)
+  opened_then h = followed_by (or_broken (opened s (index_of h)) (index_records order s strs hash text h.offset.0)) (headers_left order s strs hash text h.content.end)
 
   -- the records of the headers from a place on, in the order of the code
   pub headers_left_step : (at : ℕ) → headers_left order s strs hash text at ≡ cond (leb (length s) at) ended (or_broken (header_cut order s at) λ c. or_broken (header_body order s c) opened_then)
@@ -99,15 +113,15 @@ module _ (order : RunTimeEndian) (s strs : List ℕ) (hash : ℕ) (text : List �
   none_opened n v rest = refl
 
   -- what a cursor has left
-  pub cursor_left : (c : QueryIter) → query_left order s strs hash text c ≡ followed_by (index_left order s strs hash text c.offset c.index c.records) (headers_left order s strs hash text c.at)
+  pub cursor_left : (c : QueryIter) → query_left order s strs hash text c ≡ followed_by (index_left order s strs hash text c.offset c.parts c.records) (headers_left order s strs hash text c.at)
   unfolding query_left
   cursor_left c = refl
 
   -- before the first header the empty index has no records
-  pub first-left : length s ≤ longest → query_left order s strs hash text first_record ≡ headers_left order s strs hash text 0
+  first-left : query_left order s strs hash text first_record ≡ headers_left order s strs hash text 0
   unfolding query_left first_record followed_by
-  first-left short = rw (no_index_left order s strs hash text (record { name = record { 0 = 0 }; at = 0; next = 0 }) refl refl short)
+  first-left = rw (no_index_left order s strs hash text (record { name = record { 0 = 0 }; at = 0; next = 0 }) refl refl)
 
   pub section_left : length s ≤ longest → length strs ≤ longest → section_records order s strs hash text ≡ query_left order s strs hash text first_record
   unfolding section_records
-  section_left short short-strs = rw (le-ltb longest (length s) short, le-ltb longest (length strs) short-strs) (sym (first-left short))
+  section_left short short-strs = rw (le-ltb longest (length s) short, le-ltb longest (length strs) short-strs) (sym first-left)

@@ -4,37 +4,37 @@
 #![tactic(auto)]
 
 ghost use Rattle.std.specs.Prelude.{◌≡◌, List, ℕ};
-ghost use Rattle.section_records.specs.Records.{headers_left};
-ghost use Rattle.section_records.specs.Inner.{query_left, first_record};
 ghost use Rattle.reader.specs.Listing.{item, left_by};
-ghost use Rattle.section_records.specs.Answers.{next_past};
+ghost use Rattle.index.specs.Layout.{PartsFit};
+ghost use Rattle.section_records.specs.Records.{headers_left};
+ghost use Rattle.section_records.specs.Inner.{query_left, first_record, opened_past};
 
 use headers::{cut_header, parse_body};
-use index::NameIndex;
+use index::{NameIndex, Parts, open_index};
 use index_query::{IndexIter, start};
 use reader::{Error, NameTableIndex, RunTimeEndian};
 use records::Record;
 
 // A cursor over the records of a section: the place of the next header, the open index with its place in the section, and the cursor over
-// its records. It is no call for customers; any cursor is legal.
+// its records. It is no call for customers. That its index fits the section is tested once, where the index is opened.
 #[derive(Clone, Copy)]
 pub struct QueryIter {
     pub at: usize,
     pub offset: u32,
-    pub index: NameIndex,
+    pub parts: Parts,
     pub records: IndexIter,
 }
 
 // The cursor before the first header: no index is open.
 // (A name that says what comes first, in place of a `Default`.)
-#[tactic(auto, unfolding(crate::specs::Inner::first_record, index::specs::Layout::no_index))]
+#[tactic(auto, unfolding(crate::specs::Inner::first_record, index::specs::Layout::no_index), using(crate::proofs::WalkLaws::no_parts))]
 pub fn first_record() -> QueryIter
     ensures { result ≡ first_record }
 {
     QueryIter {
         at: 0,
         offset: 0,
-        index: NameIndex::default(),
+        parts: Parts::default(),
         records: IndexIter {
             name: NameTableIndex(0),
             at: 0,
@@ -44,7 +44,7 @@ pub fn first_record() -> QueryIter
 }
 
 // Opens the index whose header begins at a place, and looks for its candidates: a cursor before its first record; none at the section's end.
-#[tactic(auto, using(crate::proofs::WalkLaws::headers_ended, crate::proofs::WalkLaws::headers_opened, crate::proofs::WalkLaws::none_opened, crate::proofs::WalkLaws::cursor_left, crate::proofs::WalkLaws::header_read, crate::proofs::WalkLaws::offset_small))]
+#[tactic(auto, using(crate::proofs::WalkLaws::headers_ended, crate::proofs::WalkLaws::headers_opened, crate::proofs::WalkLaws::none_opened, crate::proofs::WalkLaws::cursor_left, crate::proofs::WalkLaws::header_read, crate::proofs::WalkLaws::offset_small, index::proofs::OpenLaws::opened_own))]
 fn open_next(
     order: RunTimeEndian,
     section: &[u8],
@@ -52,19 +52,19 @@ fn open_next(
     at: usize,
 ) -> Result<Option<QueryIter>, Error>
     ensures by_index { (strings name : List ℕ) → left_by result (query_left order section.now strings hash name) ≡ headers_left order section.now strings hash name at }
-    ensures onward { next_past section.now at result }
+    ensures onward { opened_past section.now at result }
 {
     if section.len() <= at {
         return Ok(None);
     }
     let cut = cut_header(order, section, at)?;
     let header = parse_body(order, section, cut)?;
-    let index = NameIndex::new(section, header)?;
-    let records = start(order, section, index, hash)?;
+    let parts = open_index(section, NameIndex::from(header))?;
+    let records = start(order, section, hash, parts)?;
     Ok(Some(QueryIter {
         at: header.content.end,
         offset: header.offset.0 as u32,
-        index,
+        parts,
         records,
     }))
 }
@@ -80,13 +80,15 @@ impl QueryIter {
         hash: u32,
         name: &[u8],
     ) -> Result<Option<Record>, Error>
-        ensures { left_by result (λ r. item r (query_left order section.now strings.now hash name.now self.new)) ≡ query_left order section.now strings.now hash name.now self.old }
+        requires { PartsFit section.now self.old.parts }
+        ensures left { left_by result (λ r. item r (query_left order section.now strings.now hash name.now self.new)) ≡ query_left order section.now strings.now hash name.now self.old }
+        ensures fit { PartsFit section.now self.new.parts }
     {
         loop {
-            let index = self.index;
+            let parts = self.parts;
             let record = self
                 .records
-                .next(order, section, strings, hash, name, self.offset, index)?;
+                .next(order, section, strings, hash, name, self.offset, parts)?;
             if let Some(found) = record {
                 return Ok(Some(found));
             }
