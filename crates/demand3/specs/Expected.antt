@@ -1,8 +1,9 @@
--- What a query has to find: document 01, "Demand 3 does not use this search". Of a hash table only the hash that is stored for a name is
--- looked at. `s` is .debug_names and `strs` is .debug_str; `text` has the bytes of the name that is asked for.
+-- What a query has to find: SPECIFICATION 14.6. None of the query's own search is used: of a hash table only
+-- the hash that is stored for a name is looked at. `s` is .debug_names and `strs` is .debug_str; `text` has
+-- the bytes of the name that is asked for.
 --
 -- What is shown of an entry is its record (`record_of_entry`), with the unit that `entry_unit` of `records` chooses: where an entry has both a
--- type_unit and a compile_unit attribute, the type unit (document 02, No. 5).
+-- type_unit and a compile_unit attribute, the type unit (SPECIFICATION 12.6).
 use Rattle.std.specs.Prelude.{ℕ, Bool, true, false, cond, eqb}
 use mathlib.Core.List.{List, map, flat_map}
 use Rattle.reader.specs.Outcome.{Outcome, answered, refused}
@@ -31,28 +32,34 @@ abbrev pub reads_as : List ℕ → List ℕ → Outcome Str → Bool
 reads_as strs text (answered t) = text_is strs text t
 reads_as strs text (refused n v) = false
 
-unfoldable pub string_matches : RunTimeEndian → Section → List ℕ → NameIndex → List ℕ → ℕ → Bool
-string_matches order s strs i text name = reads_as strs text (name_string order s strs i (record { 0 = name }))
+-- a section, in its byte order
+module _ (order : RunTimeEndian) (s : Section) where
+  -- whether the string of a name is this text
+  unfoldable pub string_matches : Section → NameIndex → List ℕ → ℕ → Bool
+  string_matches strs i text name = reads_as strs text (name_string order s strs i (record { 0 = name }))
 
--- with B not 0 the stored hash has to be the hash
-unfoldable pub hash_matches : RunTimeEndian → Section → NameIndex → ℕ → ℕ → Bool
-hash_matches order s i hash name = cond (eqb i.bucket_count 0) true (eqb (stored_hash order s (parts i) name) hash)
+  -- with B not 0 the stored hash has to be the hash
+  unfoldable pub hash_matches : NameIndex → ℕ → ℕ → Bool
+  hash_matches i hash name = cond (eqb i.bucket_count 0) true (eqb (stored_hash order s (parts i) name) hash)
 
--- a name matches if both do
-unfoldable pub name_is_match : RunTimeEndian → Section → List ℕ → NameIndex → ℕ → List ℕ → ℕ → Bool
-name_is_match order s strs i hash text name = cond (hash_matches order s i hash name) (string_matches order s strs i text name) false
+  -- the records of the entries in the series of a name
+  unfoldable pub records_of_name : OpenIndex → ℕ → List (Outcome Record)
+  records_of_name o name = map (record_of_entry order s o.header.offset.0 (parts o.index) name) (items_of (series order s o.index (record { 0 = name })))
 
--- of all N names those that match, in order
-unfoldable pub matching_names : RunTimeEndian → Section → List ℕ → NameIndex → ℕ → List ℕ → List ℕ
-matching_names order s strs i hash text = filterb (name_is_match order s strs i hash text) (numbers_from 0 i.name_count)
+  -- its strings; and the name that is asked for, with its hash
+  module _ (strs : Section) (hash : ℕ) (text : List ℕ) where
+    -- a name matches if its hash and its string do
+    unfoldable pub name_is_match : NameIndex → ℕ → Bool
+    name_is_match i name = cond (hash_matches i hash name) (string_matches strs i text name) false
 
--- the records of the entries in the series of a name
-unfoldable pub records_of_name : RunTimeEndian → Section → OpenIndex → ℕ → List (Outcome Record)
-records_of_name order s o name = map (record_of_entry order s o.header.offset.0 o.index name) (items_of (series order s o.index (record { 0 = name })))
+    -- of all N names those that match, in order
+    unfoldable pub matching_names : NameIndex → List ℕ
+    matching_names i = filterb (name_is_match i) (numbers_from 0 i.name_count)
 
--- those of all matching names of an index, each once for each name; and those of all indexes, in order
-unfoldable pub records_of_index : RunTimeEndian → Section → List ℕ → ℕ → List ℕ → OpenIndex → List (Outcome Record)
-records_of_index order s strs hash text o = flat_map (records_of_name order s o) (matching_names order s strs o.index hash text)
+    -- the records of all matching names of an index, an entry's once for each name in whose series it is; and
+    -- those of all indexes, in order
+    unfoldable pub records_of_index : OpenIndex → List (Outcome Record)
+    records_of_index o = flat_map (records_of_name o) (matching_names o.index)
 
-unfoldable pub expected : RunTimeEndian → Section → List ℕ → ℕ → List ℕ → List OpenIndex → List (Outcome Record)
-expected order s strs hash text opened = flat_map (records_of_index order s strs hash text) opened
+    unfoldable pub expected : List OpenIndex → List (Outcome Record)
+    expected opened = flat_map records_of_index opened

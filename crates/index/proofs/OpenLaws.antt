@@ -15,11 +15,12 @@ use Rattle.reader.proofs.OutcomeLaws.{same_answer, bind_answered, then_answered,
 use Rattle.reader.proofs.PartLaws.{skip_inside, skip_past, skip_answered, slice-within}
 use Rattle.abbreviations.specs.Abbreviations.{parsed}
 use Rattle.abbreviations.proofs.AbbreviationLaws.{parsed_part}
+use Rattle.headers.specs.declared.header.NameIndexHeader.{NameIndexHeader}
 use Rattle.index.specs.declared.layout.NameIndex.{NameIndex}
 use Rattle.index.specs.declared.layout.Parts.{Parts}
 use Rattle.index.specs.Layout.{sizes, places_from, place, parts, Fits, fitted, PartsFit}
 use Rattle.index.specs.Sanity.{OpenedFits, OpensInPart}
-use Rattle.index.proofs.LayoutLaws.{parts-follow, places_ascend, fitted-fits, fitted_own}
+use Rattle.index.proofs.LayoutLaws.{parts-follow, places_ascend, fitted-fits, fitted_own, own_index}
 use Rattle.index.specs.Open.{index_of, passed_over, cut_parts, opened, name_index}
 use Rattle.index.specs.Inner.{refuse_past, parts_inside}
 
@@ -94,6 +95,15 @@ opened_fitted s i p e =
 
 pub opened_own : (s : List ℕ) (i : NameIndex) (p : Parts) → answered p ≡ opened s i → PartsFit s p
 opened_own s i p e = let (own, fits) = fitted_own s i p (opened_fitted s i p e) in fits
+
+-- where `NameIndex::new` answers an index, opening answered its parts, and it fits
+pub name_opened : (s : List ℕ) (h : NameIndexHeader) (i : NameIndex) → name_index s h ≡ answered i → (opened s (index_of h) ≡ answered (parts i)) × (fitted s i ≡ answered (parts i))
+unfolding name_index
+name_opened s h i e =
+    let (p, opens, same) = bind_answered (opened s (index_of h)) _ i e in
+    let (short, fits, places) = opened_inside s (index_of h) p opens in
+    let is : i ≡ index_of h = sym (same_answer same) ∙ ap (λ p. p.index) places ∙ own_index (index_of h) in
+    (opens ∙ ap (λ p. answered p) (places ∙ ap parts (sym is)), rw is (fitted-fits s (index_of h) short fits))
 
 pub opened_fits : OpenedFits
 unfolding name_index parts
