@@ -57,7 +57,7 @@ module _ (order : RunTimeEndian) (s strs : List ℕ) (hash : ℕ) (text : List �
 
     -- the names that the query looks at are those whose hash matches
     candidates_match : (names : List ℕ) → CompleteOrNoTable order s o → candidates order s hash (parts o.index) ≡ answered names
-        → names ≡ filterb (hash_matches order s o.index hash) (numbers_from 0 o.index.name_count)
+        → names ≡ filterb (hash_matches order s strs hash text o.index) (numbers_from 0 o.index.name_count)
     unfolding candidates hash_matches names_from all_storing storing
     candidates_match names check given = by_check check (with_index (parts o.index).index (own_index o.index) given)
       where
@@ -84,7 +84,7 @@ module _ (order : RunTimeEndian) (s strs : List ℕ) (hash : ℕ) (text : List �
             sym (same_answer (rw no-bucket at rest)) ∙ rw (no-bucket, none_left_out, filter-all)
 
     -- a test that is answered says whether the string matches
-    test-answered : length s ≤ longest → length strs ≤ longest → (name : ℕ) (b : Bool) → test name ≡ answered b → string_matches order s strs o.index text name ≡ b
+    test-answered : length s ≤ longest → length strs ≤ longest → (name : ℕ) (b : Bool) → test name ≡ answered b → string_matches order s strs hash text o.index name ≡ b
     unfolding name_matches string_matches name_string
     test-answered short short-strs name b e =
         rw (le-ltb longest (length s) short, le-ltb longest (length strs) short-strs, fits) (by_string (name_string_in order s strs (parts o.index) (record { 0 = name })) e)
@@ -94,7 +94,7 @@ module _ (order : RunTimeEndian) (s strs : List ℕ) (hash : ℕ) (text : List �
         by_string (refused n v) e = absurd (refused-answered e)
 
     -- the records of a name that can all be counted are those of its series
-    name-all : (name n : ℕ) → counted (series_records order s offset (parts o.index) name) ≡ answered n → map answered (items_of (series_records order s offset (parts o.index) name)) ≡ records_of_name order s o name
+    name-all : (name n : ℕ) → counted (series_records order s offset (parts o.index) name) ≡ answered n → map answered (items_of (series_records order s offset (parts o.index) name)) ≡ records_of_name order s strs hash text o name
     unfolding series_records records_of_name
     name-all name n e =
         shown-all (record_of_entry order s offset (parts o.index) name) (entries_of order s (parts o.index) (record { 0 = name })) n e
@@ -102,13 +102,13 @@ module _ (order : RunTimeEndian) (s strs : List ℕ) (hash : ℕ) (text : List �
 
     -- the records of names that can all be counted are those of the names whose string matches
     series-all : length s ≤ longest → length strs ≤ longest → (names : List ℕ) (n : ℕ) → counted (all_series order s strs hash text offset (parts o.index) (matching test names)) ≡ answered n
-        → map answered (items_of (all_series order s strs hash text offset (parts o.index) (matching test names))) ≡ flat_map (records_of_name order s o) (filterb (string_matches order s strs o.index text) names)
+        → map answered (items_of (all_series order s strs hash text offset (parts o.index) (matching test names))) ≡ flat_map (records_of_name order s strs hash text o) (filterb (string_matches order s strs hash text o.index) names)
     unfolding counted items_of matching all_series filterb flat_map
     series-all short short-strs [] n e = refl
     series-all short short-strs (name ∷ names) n e = by_test (test name) refl (λ k f. series-all short short-strs names k f) e
       where
         wanted : List (Outcome Record)
-        wanted = flat_map (records_of_name order s o) (filterb (string_matches order s strs o.index text) names)
+        wanted = flat_map (records_of_name order s strs hash text o) (filterb (string_matches order s strs hash text o.index) names)
 
         rest : Listing Record
         rest = all_series order s strs hash text offset (parts o.index) (matching test names)
@@ -117,7 +117,7 @@ module _ (order : RunTimeEndian) (s strs : List ℕ) (hash : ℕ) (text : List �
             → ((k : ℕ) → counted (all_series order s strs hash text offset (parts o.index) (matching test names)) ≡ answered k → map answered (items_of (all_series order s strs hash text offset (parts o.index) (matching test names))) ≡ wanted)
             → counted (all_series order s strs hash text offset (parts o.index) (or_broken b λ holds. cond holds (item name (matching test names)) (matching test names))) ≡ answered n
             → map answered (items_of (all_series order s strs hash text offset (parts o.index) (or_broken b λ holds. cond holds (item name (matching test names)) (matching test names))))
-            ≡ flat_map (records_of_name order s o) (cond (string_matches order s strs o.index text name) (name ∷ filterb (string_matches order s strs o.index text) names) (filterb (string_matches order s strs o.index text) names))
+            ≡ flat_map (records_of_name order s strs hash text o) (cond (string_matches order s strs hash text o.index name) (name ∷ filterb (string_matches order s strs hash text o.index) names) (filterb (string_matches order s strs hash text o.index) names))
         by_test (answered true) is more e =
             let (j, k, first, second, sum, both) = followed-counted (series_records order s offset (parts o.index) name) rest n e in
             rw (
@@ -139,10 +139,10 @@ module _ (order : RunTimeEndian) (s strs : List ℕ) (hash : ℕ) (text : List �
         by_candidates : (c : Outcome (List ℕ)) → candidates order s hash (parts o.index) ≡ c
             → counted (or_broken c λ names. all_series order s strs hash text offset (parts o.index) (matching test names)) ≡ answered n
             → map answered (items_of (or_broken c λ names. all_series order s strs hash text offset (parts o.index) (matching test names)))
-            ≡ flat_map (records_of_name order s o) (filterb (λ name. cond (hash_matches order s o.index hash name) (string_matches order s strs o.index text name) false) (numbers_from 0 o.index.name_count))
+            ≡ flat_map (records_of_name order s strs hash text o) (filterb (λ name. cond (hash_matches order s strs hash text o.index name) (string_matches order s strs hash text o.index name) false) (numbers_from 0 o.index.name_count))
         by_candidates (answered names) given e =
             series-all short short-strs names n e
-            ∙ rw (filter-both (hash_matches order s o.index hash) (string_matches order s strs o.index text) (numbers_from 0 o.index.name_count), candidates_match names check given)
+            ∙ rw (filter-both (hash_matches order s strs hash text o.index) (string_matches order s strs hash text o.index) (numbers_from 0 o.index.name_count), candidates_match names check given)
         by_candidates (refused m v) given e = absurd (refused-answered e)
 
   -- the same for all indexes

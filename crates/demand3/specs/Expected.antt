@@ -32,34 +32,32 @@ abbrev pub reads_as : List ℕ → List ℕ → Outcome Str → Bool
 reads_as strs text (answered t) = text_is strs text t
 reads_as strs text (refused n v) = false
 
--- a section, in its byte order
-module _ (order : RunTimeEndian) (s : Section) where
-  -- whether the string of a name is this text
-  unfoldable pub string_matches : Section → NameIndex → List ℕ → ℕ → Bool
-  string_matches strs i text name = reads_as strs text (name_string order s strs i (record { 0 = name }))
+-- a section with its strings, in its byte order, and the name that is asked for, with its hash
+module _ (order : RunTimeEndian) (s strs : Section) (hash : ℕ) (text : List ℕ) where
+  -- whether the string of a name is that name
+  unfoldable pub string_matches : NameIndex → ℕ → Bool
+  string_matches i name = reads_as strs text (name_string order s strs i (record { 0 = name }))
 
-  -- with B not 0 the stored hash has to be the hash
-  unfoldable pub hash_matches : NameIndex → ℕ → ℕ → Bool
-  hash_matches i hash name = cond (eqb i.bucket_count 0) true (eqb (stored_hash order s (parts i) name) hash)
+  -- and its stored hash that hash; with B = 0 none is stored, and any name passes
+  unfoldable pub hash_matches : NameIndex → ℕ → Bool
+  hash_matches i name = cond (eqb i.bucket_count 0) true (eqb (stored_hash order s (parts i) name) hash)
+
+  -- a name matches if both are so
+  unfoldable pub name_is_match : NameIndex → ℕ → Bool
+  name_is_match i name = cond (hash_matches i name) (string_matches i name) false
+
+  -- of all N names those that match, in order
+  unfoldable pub matching_names : NameIndex → List ℕ
+  matching_names i = filterb (name_is_match i) (numbers_from 0 i.name_count)
 
   -- the records of the entries in the series of a name
   unfoldable pub records_of_name : OpenIndex → ℕ → List (Outcome Record)
   records_of_name o name = map (record_of_entry order s o.header.offset.0 (parts o.index) name) (items_of (series order s o.index (record { 0 = name })))
 
-  -- its strings; and the name that is asked for, with its hash
-  module _ (strs : Section) (hash : ℕ) (text : List ℕ) where
-    -- a name matches if its hash and its string do
-    unfoldable pub name_is_match : NameIndex → ℕ → Bool
-    name_is_match i name = cond (hash_matches i hash name) (string_matches strs i text name) false
+  -- those of all matching names of an index, an entry's once for each name in whose series it is
+  unfoldable pub records_of_index : OpenIndex → List (Outcome Record)
+  records_of_index o = flat_map (records_of_name o) (matching_names o.index)
 
-    -- of all N names those that match, in order
-    unfoldable pub matching_names : NameIndex → List ℕ
-    matching_names i = filterb (name_is_match i) (numbers_from 0 i.name_count)
-
-    -- the records of all matching names of an index, an entry's once for each name in whose series it is; and
-    -- those of all indexes, in order
-    unfoldable pub records_of_index : OpenIndex → List (Outcome Record)
-    records_of_index o = flat_map (records_of_name o) (matching_names o.index)
-
-    unfoldable pub expected : List OpenIndex → List (Outcome Record)
-    expected opened = flat_map records_of_index opened
+  -- and those of all indexes, in order
+  unfoldable pub expected : List OpenIndex → List (Outcome Record)
+  expected opened = flat_map records_of_index opened
