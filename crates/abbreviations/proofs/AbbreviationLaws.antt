@@ -4,13 +4,13 @@ use mathlib.Core.Path.{◌≡◌, refl, sym, ap, ◌∙◌}
 use mathlib.Core.Bool.{Bool, true, false, cond}
 use mathlib.Core.Logic.{◌⊎◌, inl, inr}
 use mathlib.Core.List.{List, []}
-use Rattle.std.specs.Prelude.{Option, Some, None}
+use Rattle.std.specs.Prelude.{Option, Some, None, option_map}
 use Rattle.reader.proofs.OutcomeLaws.{none-ne-some, some-injective}
 use native.Mathlib.Omega.{arith}
 use lib.Dec.{ltb, eqb}
 use lib.Seq.{slice}
-use borrow.Author.Tests.{eq-eqb, ne_eqb, eqb-true, ltb-false}
-use Rattle.reader.specs.Outcome.{Outcome, answered, refused, ◌>>=◌, demand, refuse_if}
+use borrow.Author.Tests.{eq-eqb, ne_eqb, eqb-true, ltb-true, ltb-false}
+use Rattle.reader.specs.Outcome.{Outcome, answered, refused, ◌>>=◌, ◌>>◌, demand, refuse_if}
 use Rattle.reader.specs.Parts.{part_end, left_at, Forward}
 use Rattle.reader.specs.Numbers.{read_byte}
 use Rattle.reader.specs.declared.reader.Read.{Read}
@@ -20,14 +20,14 @@ use Rattle.reader.proofs.OutcomeLaws.{refused-answered, same_answer, bind_answer
 use Rattle.reader.proofs.PartLaws.{slice-from, slice-left}
 use Rattle.reader.proofs.NumberLaws.{byte-answered}
 use Rattle.leb128.proofs.Leb128Laws.{leb128-forward, leb128_none, leb128_part}
-use Rattle.leb128.proofs.Leb128Limits.{unsigned-one, u16-one}
+use Rattle.leb128.proofs.Leb128Limits.{unsigned-one, u16-one, u16_missing, u16-longer}
 use Rattle.reader.proofs.ListingLaws.{listing_step, listing_agree}
 use Rattle.abbreviations.specs.declared.NameAbbreviation.{NameAbbreviation}
 use Rattle.abbreviations.specs.declared.ReadAttribute.{ReadAttribute}
 use Rattle.abbreviations.specs.declared.Head.{Head}
 use Rattle.abbreviations.specs.Sanity.{TablesUnfold, DeclarationsForward, DeclarationsRead, FoundInTable, TablesInPart}
-use Rattle.abbreviations.specs.Abbreviations.{pair, Attributes, before, attributes_in, attributes, head, Declaration, with_attributes, declaration, table, ending, parsed, find, handed, handed_out, found}
-use Rattle.abbreviations.specs.Inner.{short_pair, attributes_end, declared}
+use Rattle.abbreviations.specs.Abbreviations.{pair, Attributes, attribute_then, attributes_in, attributes, head, Declaration, with_attributes, declaration, table, ending, parsed, find, abbreviation_of, found}
+use Rattle.abbreviations.specs.Inner.{of_two_bytes, short_pair, attributes_end, declared}
 
 -- the test of a pair
 abbrev tested : ℕ → ℕ → Outcome (Unit {0})
@@ -50,19 +50,131 @@ pub pair_none : (s : List ℕ) (at end : ℕ) → left_at s at end < 1 → pair 
 unfolding pair
 pair_none s at end h = rw (leb128_none u16_limit s at end h)
 
--- What a short pair says: it is of two bytes, and both are 0 or neither is.
-pub record Short (s : List ℕ) (at end x y : ℕ) : Type 0 where
+-- a short pair is the pair of name and form that stands there, and is of two bytes
+pub pair_short : (s : List ℕ) (at end x y : ℕ) → short_pair s at end ≡ Some (x, y) → pair s at end ≡ answered (record { name = x; form = y; next = at + 2 })
+unfolding short_pair
+pair_short s at end x y given = by_pair (pair s at end) given
+  where
+    by_place : (p : ReadAttribute) (t : Bool) → eqb p.next (at + 2) ≡ t → ◌≡◌ {A = Option (ℕ × ℕ)} (cond t (Some (p.name, p.form)) None) (Some (x, y))
+        → answered p ≡ answered (record { name = x; form = y; next = at + 2 })
+    by_place p true e same =
+        let both = some-injective _ _ same in
+        rw (ap (λ b. b.0) both, ap (λ b. b.1) both, eqb-true p.next (at + 2) e) refl
+    by_place p false e same = absurd (none-ne-some _ same)
+
+    by_pair : (o : Outcome ReadAttribute) → of_two_bytes at o ≡ Some (x, y) → o ≡ answered (record { name = x; form = y; next = at + 2 })
+    by_pair (answered p) same = by_place p (eqb p.next (at + 2)) refl same
+    by_pair (refused n v) same = absurd (none-ne-some _ same)
+
+-- where it ends, inside its part
+pub short_place : (s : List ℕ) (at end x y : ℕ) → short_pair s at end ≡ Some (x, y) → at + 2 ≤ part_end s end
+short_place s at end x y given =
+    let (ahead, inside) = pair_forward s at end _ (pair_short s at end x y given) in
+    inside
+
+-- a pair that ends further on is no short one
+not_short : (at : ℕ) (o : Outcome ReadAttribute) → ((p : ReadAttribute) → o ≡ answered p → at + 2 < p.next) → of_two_bytes at o ≡ None
+not_short at (answered p) further =
+    let far = further p refl in
+    rw (ne_eqb p.next (at + 2) (λ e. omega (arith, far, e)))
+not_short at (refused n v) further = refl
+
+-- what was read, if it was
+abbrev pub or_none : Outcome (ℕ × ℕ) → Option (ℕ × ℕ)
+or_none (answered p) = Some p
+or_none (refused n v) = None
+
+-- a short pair in the order of the code: two bytes below 128, both 0 or neither of them
+abbrev pub by_bytes : List ℕ → ℕ → ℕ → Option (ℕ × ℕ)
+by_bytes s at end = or_none (do
+  a ← read_byte s at end
+  b ← read_byte s a.next end
+  refuse_if (ltb 127 a.value) 0 0
+  refuse_if (ltb 127 b.value) 0 0
+  cond (eqb a.value 0) (demand (eqb b.value 0) 0 0) (refuse_if (eqb b.value 0) 0 0)
+  answered (a.value, b.value))
+
+pub short_pair_bytes : (s : List ℕ) (at end : ℕ) → short_pair s at end ≡ by_bytes s at end
+unfolding short_pair pair
+short_pair_bytes s at end = first_byte (read_byte s at end) refl
+  where
+    by_tests : (a b : Read ℕ) → eqb b.next (at + 2) ≡ true → (t u : Bool)
+        → of_two_bytes at (cond t (demand u 5 0) (refuse_if u 6 0) >> answered (record { name = a.value; form = b.value; next = b.next }))
+        ≡ or_none (cond t (demand u 0 0) (refuse_if u 0 0) >> answered (a.value, b.value))
+    by_tests a b e true true = rw e
+    by_tests a b e true false = refl
+    by_tests a b e false true = refl
+    by_tests a b e false false = rw e
+
+    -- with a first byte of 128 or more
+    first_long : (a : Read ℕ) → read_byte s at end ≡ answered a → ltb 127 a.value ≡ true → short_pair s at end ≡ by_bytes s at end
+    first_long a e long = not_short at (pair s at end) further ∙ rw (e, long) (anyway (read_byte s a.next end))
+      where
+        further : (p : ReadAttribute) → pair s at end ≡ answered p → at + 2 < p.next
+        further p g =
+            let (name, read_name, g₁) = bind_answered (leb128 u16_limit s at end) _ p g in
+            let (form, read-form, g₂) = bind_answered (leb128 u16_limit s name.next end) _ p g₁ in
+            let (u, passes, g₃) = then_answered (tested name.value form.value) _ p g₂ in
+            let past : p.next ≡ form.next = ap (λ q. q.next) (sym (same_answer g₃)) in
+            let (ahead, inside) = leb128-forward u16_limit s name.next end form read-form in
+            let far : at + 1 < name.next = u16-longer s at end a name e (ltb-true 127 a.value long) read_name in
+            omega arith
+
+        anyway : (o : Outcome (Read ℕ)) → ◌≡◌ {A = Option (ℕ × ℕ)} None (or_none (o >>= λ b. refused 0 0))
+        anyway (answered b) = refl
+        anyway (refused n v) = refl
+
+    -- with a first byte that is a number, and a second of 128 or more
+    second_long : (a b : Read ℕ) → leb128 u16_limit s at end ≡ answered a → read_byte s a.next end ≡ answered b → a.next ≡ at + 1 → ltb 127 b.value ≡ true → of_two_bytes at (pair s at end) ≡ None
+    second_long a b one f next long = not_short at (pair s at end) further
+      where
+        further : (p : ReadAttribute) → pair s at end ≡ answered p → at + 2 < p.next
+        further p g =
+            let (form, read-form, g₂) = bind_answered (leb128 u16_limit s a.next end) _ p (rw one at g) in
+            let (u, passes, g₃) = then_answered (tested a.value form.value) _ p g₂ in
+            let past : p.next ≡ form.next = ap (λ q. q.next) (sym (same_answer g₃)) in
+            let far : a.next + 1 < form.next = u16-longer s a.next end b form f (ltb-true 127 b.value long) read-form in
+            omega arith
+
+    first_byte : (o : Outcome (Read ℕ)) → read_byte s at end ≡ o → short_pair s at end ≡ by_bytes s at end
+    first_byte (refused n v) e = rw (u16_missing s at end n v e, e)
+    first_byte (answered a) e = by_size (ltb 127 a.value) refl
+      where
+        next : a.next ≡ at + 1
+        next = let (inside, value, past) = byte-answered s at end a e in past
+
+        by_size : (t : Bool) → ltb 127 a.value ≡ t → short_pair s at end ≡ by_bytes s at end
+        by_size true long = first_long a e long
+        by_size false low = second-byte (read_byte s a.next end) refl
+          where
+            one : leb128 u16_limit s at end ≡ answered a
+            one = u16-one s at end a e (omega (arith, ltb-false 127 a.value low))
+
+            second-byte : (o : Outcome (Read ℕ)) → read_byte s a.next end ≡ o → short_pair s at end ≡ by_bytes s at end
+            second-byte (refused n v) f = rw (one, u16_missing s a.next end n v f, e, f)
+            second-byte (answered b) f = by_second (ltb 127 b.value) refl
+              where
+                by_second : (t : Bool) → ltb 127 b.value ≡ t → short_pair s at end ≡ by_bytes s at end
+                by_second true long = second_long a b one f next long ∙ rw (e, f, low, long) refl
+                by_second false few =
+                    let two = u16-one s a.next end b f (omega (arith, ltb-false 127 b.value few)) in
+                    let (inside, value, past) = byte-answered s a.next end b f in
+                    rw (one, two, e, f, low, few) (by_tests a b (eq-eqb b.next (at + 2) (omega (arith, next))) (eqb a.value 0) (eqb b.value 0))
+
+-- What a short pair says of its two bytes.
+record Short (s : List ℕ) (at end x y : ℕ) : Type 0 where
   pub first : read_byte s at end ≡ answered (record { value = x; next = at + 1 })
   pub second : read_byte s (at + 1) end ≡ answered (record { value = y; next = at + 2 })
   pub low : x < 128
   pub high : y < 128
   pub passes : tested x y ≡ answered tt
-  pub inside : at + 2 ≤ part_end s end
 
 short_is : (s : List ℕ) (at end x y : ℕ) → short_pair s at end ≡ Some (x, y) → Short s at end x y
-unfolding short_pair
-short_is s at end x y given = first_byte (read_byte s at end) refl
+short_is s at end x y short = first_byte (read_byte s at end) refl
   where
+    given : by_bytes s at end ≡ Some (x, y)
+    given = sym (short_pair_bytes s at end) ∙ short
+
     low_byte : (v : ℕ) → ltb 127 v ≡ false → v < 128
     low_byte v e = omega (arith, ltb-false 127 v e)
 
@@ -87,7 +199,6 @@ short_is s at end x y given = first_byte (read_byte s at end) refl
                   low = rw is_x at (low_byte a.value et);
                   high = rw is_y at (low_byte b.value eu);
                   passes = rw (is_x, is_y) at passes;
-                  inside = omega (arith, here, past, there, beyond);
                 }
 
             low-bytes : (t : Bool) → ltb 127 a.value ≡ t → (u : Bool) → ltb 127 b.value ≡ u → (v : Bool) → eqb a.value 0 ≡ v → (w : Bool) → eqb b.value 0 ≡ w
@@ -98,17 +209,6 @@ short_is s at end x y given = first_byte (read_byte s at end) refl
             low-bytes false et false eu false ev true ew = absurd (none-ne-some _ (rw (e, f, et, eu, ev, ew) at given))
             low-bytes false et false eu true ev true ew = made et eu (rw (ev, ew) refl) (some-injective _ _ (rw (e, f, et, eu, ev, ew) at given))
             low-bytes false et false eu false ev false ew = made et eu (rw (ev, ew) refl) (some-injective _ _ (rw (e, f, et, eu, ev, ew) at given))
-
--- where it ends, inside its part
-pub short_place : (s : List ℕ) (at end x y : ℕ) → short_pair s at end ≡ Some (x, y) → at + 2 ≤ part_end s end
-short_place s at end x y given = (short_is s at end x y given).inside
-
--- it is a pair of name and form
-pub pair_short : (s : List ℕ) (at end x y : ℕ) → short_pair s at end ≡ Some (x, y) → pair s at end ≡ answered (record { name = x; form = y; next = at + 2 })
-unfolding pair
-pair_short s at end x y given =
-    let two = short_is s at end x y given in
-    rw (u16-one s at end _ two.first two.low, u16-one s (at + 1) end _ two.second two.high, two.passes)
 
 -- one that is not 0 has no 0
 both_some : (x y : ℕ) → tested x y ≡ answered tt → (x ≡ 0 → ⊥) → eqb y 0 ≡ false
@@ -124,7 +224,7 @@ pub head_short : (s : List ℕ) (at end x y : ℕ) → short_pair s at end ≡ S
 unfolding head
 head_short s at end x y given not_last =
     let two = short_is s at end x y given in
-    let inside = two.inside in
+    let inside = short_place s at end x y given in
     rw (
       ne_eqb (left_at s at end) 0 (λ e. omega (arith, inside, e)),
       unsigned-one s at end _ two.first two.low,
@@ -139,14 +239,14 @@ with_pair o more = do
   p ← o
   cond (eqb p.name 0) (answered (record { list = []; next = p.next })) (do
     rest ← more p
-    answered (before p rest))
+    answered (attribute_then p rest))
 
 with_same : (o : Outcome ReadAttribute) (f g : ReadAttribute → Outcome Attributes) → ((p : ReadAttribute) → o ≡ answered p → f p ≡ g p) → with_pair o f ≡ with_pair o g
 with_same (answered p) f g h = rw (h p refl)
 with_same (refused n v) f g h = refl
 
 -- any number of turns that is large enough gives the same
-attributes_turns : (k j : ℕ) (s : List ℕ) (at end : ℕ) → left_at s at end ≤ k → left_at s at end ≤ j → attributes_in k s at end ≡ attributes_in j s at end
+attributes_turns : (k j : ℕ) (s : List ℕ) (at end : ℕ) → left_at s at end ≤ k → left_at s at end ≤ j → attributes_in s k at end ≡ attributes_in s j at end
 unfolding attributes_in
 attributes_turns zero zero s at end hk hj = refl
 attributes_turns zero (suc j) s at end hk hj = rw (pair_none s at end (omega arith))
@@ -173,7 +273,7 @@ unfolding attributes_end
 attributes_end_step s at end = rw (attributes_step s at end) (ends (pair s at end) (λ p. attributes s p.next end))
   where
     choice : (t : Bool) (p : ReadAttribute) (rest : Outcome Attributes)
-        → (cond t (answered (record { list = []; next = p.next })) (rest >>= λ a. answered (before p a)) >>= λ a. answered a.next)
+        → (cond t (answered (record { list = []; next = p.next })) (rest >>= λ a. answered (attribute_then p a)) >>= λ a. answered a.next)
         ≡ cond t (answered p.next) (rest >>= λ a. answered a.next)
     choice true p rest = refl
     choice false p (answered a) = refl
@@ -192,7 +292,7 @@ pub pairs_last : (s : List ℕ) (at end x y : ℕ) → short_pair s at end ≡ S
 pairs_last s at end x y given last = attributes_end_step s at end ∙ rw (pair_short s at end x y given, eq-eqb x 0 last)
 
 -- they move forward, and stay inside their part
-attributes_forward_in : (k : ℕ) (s : List ℕ) (at end : ℕ) (a : Attributes) → attributes_in k s at end ≡ answered a → Forward s at end a.next
+attributes_forward_in : (k : ℕ) (s : List ℕ) (at end : ℕ) (a : Attributes) → attributes_in s k at end ≡ answered a → Forward s at end a.next
 unfolding attributes_in
 attributes_forward_in zero s at end a e = absurd (refused-answered e)
 attributes_forward_in (suc k) s at end a e =
@@ -200,15 +300,15 @@ attributes_forward_in (suc k) s at end a e =
     let (ahead, inside) = pair_forward s at end p one in
     chosen p (ahead, inside) (attributes_forward_in k s p.next end) (cond_is (eqb p.name 0) _ _ (answered a) rest)
   where
-    chosen : (p : ReadAttribute) → Forward s at end p.next → ((b : Attributes) → attributes_in k s p.next end ≡ answered b → Forward s p.next end b.next)
+    chosen : (p : ReadAttribute) → Forward s at end p.next → ((b : Attributes) → attributes_in s k p.next end ≡ answered b → Forward s p.next end b.next)
         → ((eqb p.name 0 ≡ true) × (answered (record { list = []; next = p.next }) ≡ answered a))
-        ⊎ ((eqb p.name 0 ≡ false) × ((attributes_in k s p.next end >>= λ rest. answered (before p rest)) ≡ answered a))
+        ⊎ ((eqb p.name 0 ≡ false) × ((attributes_in s k p.next end >>= λ rest. answered (attribute_then p rest)) ≡ answered a))
         → Forward s at end a.next
     chosen p (ahead, inside) more (inl (last, same)) =
         let past : a.next ≡ p.next = ap (λ b. b.next) (sym (same_answer same)) in
         (omega arith, omega arith)
     chosen p (ahead, inside) more (inr (not_last, on)) =
-        let (rest, read, same) = bind_answered (attributes_in k s p.next end) _ a on in
+        let (rest, read, same) = bind_answered (attributes_in s k p.next end) _ a on in
         let (further, within) = more rest read in
         let past : a.next ≡ rest.next = ap (λ b. b.next) (sym (same_answer same)) in
         (omega arith, omega arith)
@@ -286,12 +386,12 @@ unfolding declared declaration with_attributes with_end attributes_end
 declared_step s at end = by_cases (head s at end)
   where
     with_place : (h : Head) (o : Outcome Attributes)
-        → ((o >>= λ a. answered (Some (record { code = h.code; tag = h.tag; place = h.next; attributes = a.list; next = a.next }))) >>= λ d. answered (handed_out d))
+        → ((o >>= λ a. answered (Some (record { code = h.code; tag = h.tag; place = h.next; attributes = a.list; next = a.next }))) >>= λ d. answered (option_map abbreviation_of d))
         ≡ ((o >>= λ a. answered a.next) >>= λ next. answered (Some (record { code = h.code; tag = h.tag; attributes = h.next; next = next })))
     with_place h (answered a) = refl
     with_place h (refused n v) = refl
 
-    by_cases : (o : Outcome (Option Head)) → ((o >>= with_attributes s end) >>= λ d. answered (handed_out d)) ≡ (o >>= with_end s end)
+    by_cases : (o : Outcome (Option Head)) → ((o >>= with_attributes s end) >>= λ d. answered (option_map abbreviation_of d)) ≡ (o >>= with_end s end)
     by_cases (answered None) = refl
     by_cases (answered (Some h)) = with_place h (attributes s h.next end)
     by_cases (refused n v) = refl
@@ -304,18 +404,18 @@ decide (refused n v) last more = refused n v
 
 -- the search is answered by a declaration or by the table after it
 pub found_step : (code : ℕ) (s : List ℕ) (at end : ℕ)
-    → found code s at end ≡ decide (declared s at end) (answered None) λ d. cond (eqb d.code code) (answered (Some d)) (found code s d.next end)
+    → found s at end code ≡ decide (declared s at end) (answered None) λ d. cond (eqb d.code code) (answered (Some d)) (found s d.next end code)
 unfolding found declared find
 found_step code s at end = rw (table_step s at end) (by_cases (declaration s at end))
   where
     chosen : (t : Bool) (d : Declaration) (rest : Outcome (Option Declaration))
-        → (cond t (answered (Some d)) rest >>= λ o. answered (handed_out o)) ≡ cond t (answered (Some (handed d))) (rest >>= λ o. answered (handed_out o))
+        → (cond t (answered (Some d)) rest >>= λ o. answered (option_map abbreviation_of o)) ≡ cond t (answered (Some (abbreviation_of d))) (rest >>= λ o. answered (option_map abbreviation_of o))
     chosen true d rest = refl
     chosen false d rest = refl
 
     by_cases : (o : Outcome (Option Declaration))
-        → (find code (listed o λ d. table s d.next end) >>= λ o. answered (handed_out o))
-        ≡ decide (o >>= λ d. answered (handed_out d)) (answered None) λ d. cond (eqb d.code code) (answered (Some d)) (find code (table s d.next end) >>= λ o. answered (handed_out o))
+        → (find code (listed o λ d. table s d.next end) >>= λ o. answered (option_map abbreviation_of o))
+        ≡ decide (o >>= λ d. answered (option_map abbreviation_of d)) (answered None) λ d. cond (eqb d.code code) (answered (Some d)) (find code (table s d.next end) >>= λ o. answered (option_map abbreviation_of o))
     by_cases (answered None) = refl
     by_cases (answered (Some d)) = chosen (eqb d.code code) d (find code (table s d.next end))
     by_cases (refused n v) = refl
@@ -325,9 +425,9 @@ pub declared_forward : (s : List ℕ) (at end : ℕ) (d : NameAbbreviation) → 
 unfolding declared
 declared_forward s at end d e = let (o, read, same) = bind_answered (declaration s at end) _ (Some d) (sym e) in by_found o read (same_answer same)
   where
-    by_found : (o : Option Declaration) → declaration s at end ≡ answered o → handed_out o ≡ Some d → Forward s at end d.next
+    by_found : (o : Option Declaration) → declaration s at end ≡ answered o → option_map abbreviation_of o ≡ Some d → Forward s at end d.next
     by_found None read same = absurd (none-ne-some d same)
-    by_found (Some x) read same = rw (← some-injective (handed x) d same) (declaration-forward s at end x read)
+    by_found (Some x) read same = rw (← some-injective (abbreviation_of x) d same) (declaration-forward s at end x read)
 
 -- no declaration has code 0
 head-code : (s : List ℕ) (at end : ℕ) (h : Head) → head s at end ≡ answered (Some h) → eqb h.code 0 ≡ false
@@ -357,7 +457,7 @@ code-some s at end d e =
 -- so the search for it reads the whole table
 parsed_in : (turns : ℕ) (s : List ℕ) (at end : ℕ)
     → ending (listing (λ place. declaration s place end) (λ d. d.next) turns at)
-    ≡ ((find 0 (listing (λ place. declaration s place end) (λ d. d.next) turns at) >>= λ d. answered (handed_out d)) >>= λ o. answered tt)
+    ≡ ((find 0 (listing (λ place. declaration s place end) (λ d. d.next) turns at) >>= λ d. answered (option_map abbreviation_of d)) >>= λ o. answered tt)
 unfolding listing ending find
 parsed_in zero s at end = refl
 parsed_in (suc turns) s at end = by_cases (declaration s at end) refl (λ next. parsed_in turns s next end)
@@ -365,14 +465,14 @@ parsed_in (suc turns) s at end = by_cases (declaration s at end) refl (λ next. 
     by_cases : (o : Outcome (Option Declaration)) → declaration s at end ≡ o
         → ((next : ℕ)
         → ending (listing (λ place. declaration s place end) (λ d. d.next) turns next)
-        ≡ ((find 0 (listing (λ place. declaration s place end) (λ d. d.next) turns next) >>= λ d. answered (handed_out d)) >>= λ o. answered tt))
+        ≡ ((find 0 (listing (λ place. declaration s place end) (λ d. d.next) turns next) >>= λ d. answered (option_map abbreviation_of d)) >>= λ o. answered tt))
         → ending (listed o λ d. listing (λ place. declaration s place end) (λ d. d.next) turns d.next)
-        ≡ ((find 0 (listed o λ d. listing (λ place. declaration s place end) (λ d. d.next) turns d.next) >>= λ d. answered (handed_out d)) >>= λ o. answered tt)
+        ≡ ((find 0 (listed o λ d. listing (λ place. declaration s place end) (λ d. d.next) turns d.next) >>= λ d. answered (option_map abbreviation_of d)) >>= λ o. answered tt)
     by_cases (answered None) read more = refl
     by_cases (answered (Some d)) read more = rw (code-some s at end d read) (more d.next)
     by_cases (refused n v) read more = refl
 
-pub parsed_found : (s : List ℕ) (at end : ℕ) → parsed s at end ≡ (found 0 s at end >>= λ o. answered tt)
+pub parsed_found : (s : List ℕ) (at end : ℕ) → parsed s at end ≡ (found s at end 0 >>= λ o. answered tt)
 unfolding parsed found table
 parsed_found s at end = parsed_in (part_end s end - at) s at end
 
@@ -396,14 +496,14 @@ pair_part s t at end e =
     let rest = slice-from s t at name.next end (omega arith) e in
     rw (leb128_part u16_limit s t name.next end rest)
 
-attributes_part_in : (k : ℕ) (s t : List ℕ) (at end : ℕ) → slice at end s ≡ slice at end t → attributes_in k s at end ≡ attributes_in k t at end
+attributes_part_in : (k : ℕ) (s t : List ℕ) (at end : ℕ) → slice at end s ≡ slice at end t → attributes_in s k at end ≡ attributes_in t k at end
 unfolding attributes_in
 attributes_part_in zero s t at end e = refl
 attributes_part_in (suc k) s t at end e =
     (with_same (pair s at end) _ _ λ p read.
     let (ahead, inside) = pair_forward s at end p read in
     attributes_part_in k s t p.next end (slice-from s t at p.next end (omega arith) e))
-    ∙ ap (λ o. with_pair o λ p. attributes_in k t p.next end) (pair_part s t at end e)
+    ∙ ap (λ o. with_pair o λ p. attributes_in t k p.next end) (pair_part s t at end e)
 
 attributes_part : (s t : List ℕ) (at end : ℕ) → slice at end s ≡ slice at end t → attributes s at end ≡ attributes t at end
 unfolding attributes

@@ -1,32 +1,31 @@
 -- What only the code needs: what single functions of it answer or leave. A reader of the other files need not know these.
-use Rattle.std.specs.Prelude.{ℕ, cond, List, ltb, eqb, Option, Some, None}
-use Rattle.reader.specs.Outcome.{Outcome, answered, refused, ◌>>=◌, ◌>>◌, demand, refuse_if}
-use Rattle.reader.specs.Numbers.{read_byte}
+use Rattle.std.specs.Prelude.{ℕ, ◌+◌, cond, eqb, Option, Some, None, option_map}
+use Rattle.reader.specs.Outcome.{Outcome, answered, refused, ◌>>=◌}
+use Rattle.reader.specs.Parts.{Section}
 use Rattle.abbreviations.specs.declared.NameAbbreviation.{NameAbbreviation}
-use Rattle.abbreviations.specs.Abbreviations.{attributes, declaration, handed_out}
+use Rattle.abbreviations.specs.declared.ReadAttribute.{ReadAttribute}
+use Rattle.abbreviations.specs.Abbreviations.{pair, attributes, declaration, abbreviation_of}
 
--- What single functions of the code answer.
--- Two bytes below 128, both 0 or neither of them: a short pair (`pair_short`). `None` stands for all else.
-abbrev or_none : Outcome (ℕ × ℕ) → Option (ℕ × ℕ)
-or_none (answered p) = Some p
-or_none (refused n v) = None
+-- of a pair that was read at `at`, name and form where each is a number of one byte: the next place is then
+-- two bytes on. None stands for all else.
+abbrev pub of_two_bytes : ℕ → Outcome ReadAttribute → Option (ℕ × ℕ)
+of_two_bytes at (answered p) = cond (eqb p.next (at + 2)) (Some (p.name, p.form)) None
+of_two_bytes at (refused n v) = None
 
-unfoldable pub short_pair : List ℕ → ℕ → ℕ → Option (ℕ × ℕ)
-short_pair s at end = or_none (do
-  a ← read_byte s at end
-  b ← read_byte s a.next end
-  refuse_if (ltb 127 a.value) 0 0
-  refuse_if (ltb 127 b.value) 0 0
-  cond (eqb a.value 0) (demand (eqb b.value 0) 0 0) (refuse_if (eqb b.value 0) 0 0)
-  answered (a.value, b.value))
+-- a section
+module _ (s : Section) where
+  -- `short_pair`: the pair at a place, if it is of two bytes
+  unfoldable pub short_pair : ℕ → ℕ → Option (ℕ × ℕ)
+  short_pair at end = of_two_bytes at (pair s at end)
 
--- the place past the pairs, and one declaration
-unfoldable pub attributes_end : List ℕ → ℕ → ℕ → Outcome ℕ
-attributes_end s at end = do
-  a ← attributes s at end
-  answered a.next
+  -- `skip_attributes`: the place past the attributes
+  unfoldable pub attributes_end : ℕ → ℕ → Outcome ℕ
+  attributes_end at end = do
+    a ← attributes s at end
+    answered a.next
 
-unfoldable pub declared : List ℕ → ℕ → ℕ → Outcome (Option NameAbbreviation)
-declared s at end = do
-  d ← declaration s at end
-  answered (handed_out d)
+  -- `read_declaration`: one declaration
+  unfoldable pub declared : ℕ → ℕ → Outcome (Option NameAbbreviation)
+  declared at end = do
+    d ← declaration s at end
+    answered (option_map abbreviation_of d)

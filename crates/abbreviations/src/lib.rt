@@ -41,7 +41,7 @@ pub struct NameAbbreviation {
 
 // Two bytes below 128, both 0 or neither of them: each is then a number by itself, and nearly all of a table is of such bytes. None stands for
 // all else.
-#[tactic(auto, unfolding(crate::specs::Inner::short_pair))]
+#[tactic(auto, using(crate::proofs::AbbreviationLaws::short_pair_bytes))]
 #[inline(always)]
 fn short_pair(s: &[u8], at: usize, end: usize) -> Option<(u8, u8)>
     ensures { result ≡ short_pair s.now at end }
@@ -187,7 +187,7 @@ pub fn read_declaration(s: &[u8], at: usize, end: usize) -> Result<Option<NameAb
 // that is met before the wanted one ends, that one included, gives its own refusal.
 #[tactic(auto, using(crate::proofs::AbbreviationLaws::found_step, crate::proofs::AbbreviationLaws::declared_forward))]
 pub fn get(s: &[u8], at: usize, end: usize, code: u64) -> Result<Option<NameAbbreviation>, Error>
-    ensures { outcome result ≡ found code s.now at end }
+    ensures { outcome result ≡ found s.now at end code }
 {
     let mut place = at;
     loop {

@@ -1,10 +1,10 @@
--- Laws of attributes: the values one pair at a time, with no count of turns; the first attribute of each name, kept on the way; and whether it
--- has the number of a unit.
+-- Laws of attributes: the values one pair at a time, with no count of turns; the first attribute of each
+-- name, with one attribute more behind those that were read; and whether it has the number of a unit.
 use Prim.Native.Nat.{ℕ, zero, suc, ◌≤◌}
 use mathlib.Core.Path.{◌≡◌, refl, sym, ap, ◌∙◌}
 use mathlib.Core.Bool.{Bool, true, false, false≢true, cond}
 use mathlib.Core.Logic.{◌⊎◌, inl, inr}
-use mathlib.Core.List.{List, [], ◌∷◌, map}
+use mathlib.Core.List.{List, [], ◌∷◌, ◌++◌, append-nil, append_assoc, map}
 use native.Mathlib.Omega.{arith}
 use lib.Dec.{ltb, eqb}
 use borrow.Author.Tests.{eqb-true, eqb-false, eq-eqb, ne_eqb}
@@ -12,8 +12,8 @@ use Rattle.reader.specs.Outcome.{Outcome, answered, refused, ◌>>=◌}
 use Rattle.reader.specs.Parts.{left_at}
 use Rattle.reader.specs.Lists.{memberb}
 use Rattle.reader.specs.declared.endianity.RunTimeEndian.{RunTimeEndian}
-use Rattle.reader.proofs.OutcomeLaws.{refused-answered, same_answer, bind_answered, bind_same, cond_is}
-use Rattle.abbreviations.specs.Abbreviations.{Attributes, pair, before, attributes_in, attributes}
+use Rattle.reader.proofs.OutcomeLaws.{refused-answered, same_answer, bind_answered, cond_is}
+use Rattle.abbreviations.specs.Abbreviations.{Attributes, pair, attribute_then, attributes_in, attributes}
 use Rattle.abbreviations.specs.declared.ReadAttribute.{ReadAttribute}
 use Rattle.abbreviations.proofs.AbbreviationLaws.{pair_forward, pair_none}
 use Rattle.forms.specs.Forms.{form_value}
@@ -24,9 +24,10 @@ use Rattle.attributes.specs.declared.facts.Facts.{Facts}
 use Rattle.attributes.specs.Meaning.{unit_number_in, unit_number}
 use Rattle.attributes.specs.Sanity.{ValuesDeclared, EntryValuesOnward, stands, StandsExactly}
 use Rattle.attributes.specs.Attributes.{NameAttribute, Values, value_then, values, kept, first, compile_unit_name, type_unit_name, die_offset_name, parent_name, type_hash_name, facts}
-use Rattle.attributes.specs.Inner.{values_in, values_from, facts_read, with_one, with_fact, no_facts}
+use Rattle.attributes.specs.Inner.{values_in, values_from, facts_read}
 use Rattle.reader.specs.declared.reader.Read.{Read}
 use Rattle.std.specs.Prelude.{Option, Some, None}
+use Rattle.std.specs.Option.{option_or}
 
 -- a pair, its value, and the values after it
 abbrev turn : RunTimeEndian → List ℕ → ℕ → ℕ → Outcome ReadAttribute → (ReadAttribute → ℕ → Outcome Values) → Outcome Values
@@ -70,103 +71,109 @@ turn_step order s pairs pairsEnd at end =
     let (ahead, inside) = pair_forward s pairs pairsEnd p e in
     values_turns (left_at s pairs pairsEnd) (left_at s p.next pairsEnd) order s p.next pairsEnd next end (omega arith) (omega arith))
 
--- what is kept of a name in the end: each attribute in turn, in the order of the code
-unfoldable pub kept_one : ℕ → Option FirstAttribute → List NameAttribute → Option FirstAttribute
-kept_one wanted f [] = f
-kept_one wanted f (a ∷ more) = kept_one wanted (with_one wanted f a.name (kept a.form a.value)) more
+-- the first attribute of a name in a list with another behind it
+pub first_behind : (wanted : ℕ) (list more : List NameAttribute) → first wanted (list ++ more) ≡ option_or (first wanted list) (first wanted more)
+unfolding first
+first_behind wanted [] more = refl
+first_behind wanted (a ∷ list) more = by_name (eqb a.name wanted) (first_behind wanted list more)
+  where
+    by_name : (t : Bool) → first wanted (list ++ more) ≡ option_or (first wanted list) (first wanted more)
+        → cond t (Some (kept a.form a.value)) (first wanted (list ++ more)) ≡ option_or (cond t (Some (kept a.form a.value)) (first wanted list)) (first wanted more)
+    by_name true rest = refl
+    by_name false rest = rest
 
-unfoldable pub kept_all : Facts → List NameAttribute → Facts
-kept_all f list = record {
-  compile_unit = kept_one compile_unit_name f.compile_unit list;
-  type_unit = kept_one type_unit_name f.type_unit list;
-  die_offset = kept_one die_offset_name f.die_offset list;
-  parent = kept_one parent_name f.parent list;
-  type_hash = kept_one type_hash_name f.type_hash list;
+-- so to the facts of a list, an attribute behind it adds one where it is the first of its name
+pub facts_more : (list : List NameAttribute) (a : NameAttribute) → facts (list ++ (a ∷ [])) ≡ record {
+  compile_unit = option_or (facts list).compile_unit (cond (eqb a.name 1) (Some (kept a.form a.value)) None);
+  type_unit = option_or (facts list).type_unit (cond (eqb a.name 2) (Some (kept a.form a.value)) None);
+  die_offset = option_or (facts list).die_offset (cond (eqb a.name 3) (Some (kept a.form a.value)) None);
+  parent = option_or (facts list).parent (cond (eqb a.name 4) (Some (kept a.form a.value)) None);
+  type_hash = option_or (facts list).type_hash (cond (eqb a.name 5) (Some (kept a.form a.value)) None);
 }
-
--- an attribute that was kept stays
-kept_stays : (wanted : ℕ) (b : FirstAttribute) (list : List NameAttribute) → kept_one wanted (Some b) list ≡ Some b
-unfolding kept_one
-kept_stays wanted b [] = refl
-kept_stays wanted b (a ∷ more) = by_name (eqb a.name wanted) (kept_stays wanted b more)
-  where
-    by_name : (t : Bool) → kept_one wanted (Some b) more ≡ Some b → kept_one wanted (cond t (Some b) (Some b)) more ≡ Some b
-    by_name true rest = rest
-    by_name false rest = rest
-
--- so from none on it is the first of its name
-kept-first : (wanted : ℕ) (list : List NameAttribute) → kept_one wanted None list ≡ first wanted list
-unfolding kept_one first
-kept-first wanted [] = refl
-kept-first wanted (a ∷ more) = by_name (eqb a.name wanted) (kept-first wanted more)
-  where
-    by_name : (t : Bool) → kept_one wanted None more ≡ first wanted more
-        → kept_one wanted (cond t (Some (kept a.form a.value)) None) more ≡ cond t (Some (kept a.form a.value)) (first wanted more)
-    by_name true rest = kept_stays wanted (kept a.form a.value) more
-    by_name false rest = rest
-
-facts-first : (list : List NameAttribute) → facts list ≡ kept_all no_facts list
-unfolding facts kept_all no_facts
-facts-first list =
+unfolding facts first
+facts_more list a =
     rw (
-      kept-first compile_unit_name list,
-      kept-first type_unit_name list,
-      kept-first die_offset_name list,
-      kept-first parent_name list,
-      kept-first type_hash_name list,
+      first_behind compile_unit_name list (a ∷ []),
+      first_behind type_unit_name list (a ∷ []),
+      first_behind die_offset_name list (a ∷ []),
+      first_behind parent_name list (a ∷ []),
+      first_behind type_hash_name list (a ∷ []),
     )
 
--- facts so far, and what is left to read
-unfoldable pub facts_from : Facts → RunTimeEndian → List ℕ → ℕ → ℕ → ℕ → ℕ → Outcome (Read Facts)
-facts_from f order s pairs pairsEnd at end = do
-  v ← values_from order s pairs pairsEnd at end
-  answered (record { value = kept_all f v.list; next = v.next })
+-- where it has none of the five names, it adds nothing
+pub facts_other : (list : List NameAttribute) (a : NameAttribute) → (a.name ≡ 1 → ⊥) → (a.name ≡ 2 → ⊥) → (a.name ≡ 3 → ⊥) → (a.name ≡ 4 → ⊥) → (a.name ≡ 5 → ⊥)
+    → facts (list ++ (a ∷ [])) ≡ facts list
+unfolding facts
+facts_other list a compile types die up hash =
+    facts_more list a
+    ∙ rw (
+      ne_eqb a.name 1 compile,
+      ne_eqb a.name 2 types,
+      ne_eqb a.name 3 die,
+      ne_eqb a.name 4 up,
+      ne_eqb a.name 5 hash,
+      or_none (first compile_unit_name list),
+      or_none (first type_unit_name list),
+      or_none (first die_offset_name list),
+      or_none (first parent_name list),
+      or_none (first type_hash_name list),
+    )
+  where
+    or_none : (f : Option FirstAttribute) → option_or f None ≡ f
+    or_none None = refl
+    or_none (Some a) = refl
 
--- at first no fact is kept
-pub facts_start : (f : Facts) (order : RunTimeEndian) (s : List ℕ) (pairs pairsEnd at end : ℕ)
-    → (f.compile_unit ≡ None) × ((f.type_unit ≡ None) × ((f.die_offset ≡ None) × ((f.parent ≡ None) × (f.type_hash ≡ None))))
-    → facts_read order s pairs pairsEnd at end ≡ facts_from f order s pairs pairsEnd at end
-unfolding facts_read facts_from kept_all
-facts_start f order s pairs pairsEnd at end (compile, (types, (die, (up, hash)))) =
-    rw (compile, types, die, up, hash) (bind_same (values_from order s pairs pairsEnd at end) _ _ λ v read. rw (facts-first v.list))
+-- the facts of some attributes, and of those that are left to read behind them
+unfoldable pub facts_behind : List NameAttribute → RunTimeEndian → List ℕ → ℕ → ℕ → ℕ → ℕ → Outcome (Read Facts)
+facts_behind list order s pairs pairsEnd at end = do
+  v ← values_from order s pairs pairsEnd at end
+  answered (record { value = facts (list ++ v.list); next = v.next })
+
+-- at first none was read, and no fact is kept
+pub facts_none : (f : Facts) → (f.compile_unit ≡ None) × ((f.type_unit ≡ None) × ((f.die_offset ≡ None) × ((f.parent ≡ None) × (f.type_hash ≡ None)))) → f ≡ facts []
+unfolding facts first
+facts_none f (compile, (types, (die, (up, hash)))) = rw (compile, types, die, up, hash)
+
+pub facts_start : (order : RunTimeEndian) (s : List ℕ) (pairs pairsEnd at end : ℕ) → facts_read order s pairs pairsEnd at end ≡ facts_behind [] order s pairs pairsEnd at end
+unfolding facts_read facts_behind
+facts_start order s pairs pairsEnd at end = refl
 
 -- one attribute, in the order of the code
-pub facts_step : (f : Facts) (order : RunTimeEndian) (s : List ℕ) (pairs pairsEnd at end : ℕ) → facts_from f order s pairs pairsEnd at end ≡ (do
+pub facts_step : (list : List NameAttribute) (order : RunTimeEndian) (s : List ℕ) (pairs pairsEnd at end : ℕ) → facts_behind list order s pairs pairsEnd at end ≡ (do
   p ← pair s pairs pairsEnd
-  cond (eqb p.name 0) (answered (record { value = f; next = at })) (do
+  cond (eqb p.name 0) (answered (record { value = facts list; next = at })) (do
     v ← form_value p.form order s at end
-    facts_from (with_fact f p.name (kept p.form v.value)) order s p.next pairsEnd v.next end))
-unfolding facts_from kept_all kept_one with_fact
-facts_step f order s pairs pairsEnd at end = rw (turn_step order s pairs pairsEnd at end) (by_pair (pair s pairs pairsEnd))
+    facts_behind (list ++ (record { name = p.name; form = p.form; value = v.value } ∷ [])) order s p.next pairsEnd v.next end))
+unfolding facts_behind
+facts_step list order s pairs pairsEnd at end = rw (turn_step order s pairs pairsEnd at end) (by_pair (pair s pairs pairsEnd))
   where
-    handed : Facts → Values → Outcome (Read Facts)
-    handed f v = answered (record { value = kept_all f v.list; next = v.next })
+    told : List NameAttribute → Values → Outcome (Read Facts)
+    told list v = answered (record { value = facts (list ++ v.list); next = v.next })
 
-    by_rest : (a : NameAttribute) (o : Outcome Values)
-        → ((o >>= λ rest. answered (value_then a.name a.form a.value rest)) >>= handed f) ≡ (o >>= handed (with_fact f a.name (kept a.form a.value)))
-    by_rest a (answered rest) = refl
+    by_rest : (a : NameAttribute) (o : Outcome Values) → ((o >>= λ rest. answered (value_then a.name a.form a.value rest)) >>= told list) ≡ (o >>= told (list ++ (a ∷ [])))
+    by_rest a (answered rest) = rw (append_assoc list (a ∷ []) rest.list) refl
     by_rest a (refused n v) = refl
 
     by_value : (p : ReadAttribute) (o : Outcome (Read NameAttributeValue))
-        → ((o >>= λ v. values_from order s p.next pairsEnd v.next end >>= λ rest. answered (value_then p.name p.form v.value rest)) >>= handed f)
-        ≡ (o >>= λ v. values_from order s p.next pairsEnd v.next end >>= handed (with_fact f p.name (kept p.form v.value)))
+        → ((o >>= λ v. values_from order s p.next pairsEnd v.next end >>= λ rest. answered (value_then p.name p.form v.value rest)) >>= told list)
+        ≡ (o >>= λ v. values_from order s p.next pairsEnd v.next end >>= told (list ++ (record { name = p.name; form = p.form; value = v.value } ∷ [])))
     by_value p (answered v) = by_rest (record { name = p.name; form = p.form; value = v.value }) (values_from order s p.next pairsEnd v.next end)
     by_value p (refused n v) = refl
 
     by_name : (t : Bool) (p : ReadAttribute)
-        → (cond t (answered (record { list = []; next = at })) (form_value p.form order s at end >>= λ v. values_from order s p.next pairsEnd v.next end >>= λ rest. answered (value_then p.name p.form v.value rest)) >>= handed f)
-        ≡ cond t (answered (record { value = f; next = at })) (form_value p.form order s at end >>= λ v. values_from order s p.next pairsEnd v.next end >>= handed (with_fact f p.name (kept p.form v.value)))
-    by_name true p = refl
+        → (cond t (answered (record { list = []; next = at })) (form_value p.form order s at end >>= λ v. values_from order s p.next pairsEnd v.next end >>= λ rest. answered (value_then p.name p.form v.value rest)) >>= told list)
+        ≡ cond t (answered (record { value = facts list; next = at })) (form_value p.form order s at end >>= λ v. values_from order s p.next pairsEnd v.next end >>= told (list ++ (record { name = p.name; form = p.form; value = v.value } ∷ [])))
+    by_name true p = rw (append-nil list) refl
     by_name false p = by_value p (form_value p.form order s at end)
 
     by_pair : (o : Outcome ReadAttribute)
-        → (turn order s at end o (λ p next. values_from order s p.next pairsEnd next end) >>= handed f)
-        ≡ (o >>= λ p. cond (eqb p.name 0) (answered (record { value = f; next = at })) (form_value p.form order s at end >>= λ v. values_from order s p.next pairsEnd v.next end >>= handed (with_fact f p.name (kept p.form v.value))))
+        → (turn order s at end o (λ p next. values_from order s p.next pairsEnd next end) >>= told list)
+        ≡ (o >>= λ p. cond (eqb p.name 0) (answered (record { value = facts list; next = at })) (form_value p.form order s at end >>= λ v. values_from order s p.next pairsEnd v.next end >>= told (list ++ (record { name = p.name; form = p.form; value = v.value } ∷ []))))
     by_pair (answered p) = by_name (eqb p.name 0) p
     by_pair (refused n v) = refl
 
 -- with the same number of turns, pairs that can all be read give the values of their attributes
-values_declared_in : (k : ℕ) (order : RunTimeEndian) (s : List ℕ) (pairs pairsEnd : ℕ) (a : Attributes) (at end : ℕ) → attributes_in k s pairs pairsEnd ≡ answered a
+values_declared_in : (k : ℕ) (order : RunTimeEndian) (s : List ℕ) (pairs pairsEnd : ℕ) (a : Attributes) (at end : ℕ) → attributes_in s k pairs pairsEnd ≡ answered a
     → values_in k order s pairs pairsEnd at end ≡ values order s a.list at end
 unfolding attributes_in values_in values
 values_declared_in zero order s pairs pairsEnd a at end e = absurd (refused-answered e)
@@ -174,8 +181,8 @@ values_declared_in (suc k) order s pairs pairsEnd a at end e =
     let (p, one, rest) = bind_answered (pair s pairs pairsEnd) _ a e in
     rw one (chosen p (λ b at. values_declared_in k order s p.next pairsEnd b at end) (cond_is (eqb p.name 0) _ _ (answered a) rest))
   where
-    by_value : (p : ReadAttribute) (b : Attributes) → attributes_in k s p.next pairsEnd ≡ answered b
-        → ((b : Attributes) (at : ℕ) → attributes_in k s p.next pairsEnd ≡ answered b → values_in k order s p.next pairsEnd at end ≡ values order s b.list at end)
+    by_value : (p : ReadAttribute) (b : Attributes) → attributes_in s k p.next pairsEnd ≡ answered b
+        → ((b : Attributes) (at : ℕ) → attributes_in s k p.next pairsEnd ≡ answered b → values_in k order s p.next pairsEnd at end ≡ values order s b.list at end)
         → (o : Outcome (Read NameAttributeValue))
         → (o >>= λ v. values_in k order s p.next pairsEnd v.next end >>= λ rest. answered (value_then p.name p.form v.value rest))
         ≡ (o >>= λ v. values order s b.list v.next end >>= λ rest. answered (value_then p.name p.form v.value rest))
@@ -183,15 +190,15 @@ values_declared_in (suc k) order s pairs pairsEnd a at end e =
     by_value p b read more (refused n v) = refl
 
     chosen : (p : ReadAttribute)
-        → ((b : Attributes) (at : ℕ) → attributes_in k s p.next pairsEnd ≡ answered b → values_in k order s p.next pairsEnd at end ≡ values order s b.list at end)
+        → ((b : Attributes) (at : ℕ) → attributes_in s k p.next pairsEnd ≡ answered b → values_in k order s p.next pairsEnd at end ≡ values order s b.list at end)
         → ((eqb p.name 0 ≡ true) × (answered (record { list = []; next = p.next }) ≡ answered a))
-        ⊎ ((eqb p.name 0 ≡ false) × ((attributes_in k s p.next pairsEnd >>= λ rest. answered (before p rest)) ≡ answered a))
+        ⊎ ((eqb p.name 0 ≡ false) × ((attributes_in s k p.next pairsEnd >>= λ rest. answered (attribute_then p rest)) ≡ answered a))
         → cond (eqb p.name 0) (answered (record { list = []; next = at }))
         (form_value p.form order s at end >>= λ v. values_in k order s p.next pairsEnd v.next end >>= λ rest. answered (value_then p.name p.form v.value rest))
         ≡ values order s a.list at end
     chosen p more (inl (last, same)) = rw (last, ← same_answer same) refl
     chosen p more (inr (not_last, on)) =
-        let (b, read, same) = bind_answered (attributes_in k s p.next pairsEnd) _ a on in
+        let (b, read, same) = bind_answered (attributes_in s k p.next pairsEnd) _ a on in
         rw (not_last, ← same_answer same) (by_value p b read more (form_value p.form order s at end))
 
 pub values-declared : ValuesDeclared

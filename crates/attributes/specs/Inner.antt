@@ -1,17 +1,16 @@
 -- What only the code needs: what single functions of it answer or leave. A reader of the other files need not know these.
-use Rattle.std.specs.Prelude.{ℕ, zero, suc, cond, [], eqb, Option, Some, None}
+use Rattle.std.specs.Prelude.{ℕ, zero, suc, cond, [], eqb}
 use Rattle.reader.specs.Outcome.{Outcome, answered, ◌>>=◌}
 use Rattle.reader.specs.Parts.{left_at}
 use Rattle.reader.specs.declared.endianity.RunTimeEndian.{RunTimeEndian}
 use Rattle.abbreviations.specs.Abbreviations.{pair}
 use Rattle.forms.specs.Forms.{form_value}
-use Rattle.attributes.specs.declared.attribute.FirstAttribute.{FirstAttribute}
 use Rattle.attributes.specs.declared.facts.Facts.{Facts}
 use Rattle.reader.specs.declared.reader.Read.{Read}
 use Rattle.reader.specs.Errors.{refusal}
 use Rattle.reader.specs.declared.error.Error.TheVariants.{UnexpectedEof}
 use Rattle.reader.specs.Parts.{Section}
-use Rattle.attributes.specs.Attributes.{Values, compile_unit_name, die_offset_name, facts, parent_name, type_hash_name, type_unit_name, value_then}
+use Rattle.attributes.specs.Attributes.{Values, facts, value_then}
 
 -- What single functions of the code answer, for any places. The values, where the pairs of name and form are read from `pairs` on as
 -- they are needed: a pair that is refused gives its refusal when its turn comes. For the pairs of a declaration, which can all be
@@ -25,26 +24,6 @@ values_in (suc turns) order s pairs pairsEnd at end = do
     v ← form_value p.form order s at end
     rest ← more v.next
     answered (value_then p.name p.form v.value rest))
-
--- facts that were kept, with one more attribute: it counts where it is the first of its name
-abbrev pub or_else : Option FirstAttribute → FirstAttribute → Option FirstAttribute
-or_else None b = Some b
-or_else (Some a) b = Some a
-
-abbrev pub with_one : ℕ → Option FirstAttribute → ℕ → FirstAttribute → Option FirstAttribute
-with_one wanted f name a = cond (eqb name wanted) (or_else f a) f
-
-unfoldable pub with_fact : Facts → ℕ → FirstAttribute → Facts
-with_fact f name a = record {
-  compile_unit = with_one compile_unit_name f.compile_unit name a;
-  type_unit = with_one type_unit_name f.type_unit name a;
-  die_offset = with_one die_offset_name f.die_offset name a;
-  parent = with_one parent_name f.parent name a;
-  type_hash = with_one type_hash_name f.type_hash name a;
-}
-
-abbrev pub no_facts : Facts
-no_facts = record { compile_unit = None; type_unit = None; die_offset = None; parent = None; type_hash = None }
 
 -- a section, in its byte order
 module _ (order : RunTimeEndian) (s : Section) where

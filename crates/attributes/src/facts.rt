@@ -2,9 +2,10 @@
 // value in turn, and keeps the first attribute of each of the five names by value, not resolved (document 01, "Entries and
 // attributes").
 // (s, at, end) stay parameters: with a struct of s and end, as was tried, contracts are no plainer (docs/DECISIONS.md).
-ghost use Rattle.std.specs.Prelude.{◌≡◌};
+ghost use Rattle.std.specs.Prelude.{◌≡◌, List, [], ◌∷◌, ◌++◌};
 ghost use Rattle.reader.specs.Answers.{outcome};
-ghost use Rattle.attributes.specs.Inner.{with_fact, facts_read};
+ghost use Rattle.attributes.specs.Attributes.{NameAttribute, facts};
+ghost use Rattle.attributes.specs.Inner.{facts_read};
 
 use crate::attribute::FirstAttribute;
 use abbreviations::read_attribute;
@@ -22,11 +23,12 @@ pub struct Facts {
 }
 
 impl Facts {
-    // Keeps one more attribute: it counts where it is the first of its name.
-    #[tactic(auto, unfolding(crate::specs::Inner::with_fact))]
+    // Keeps one attribute more: the facts of a list of attributes are then those of the list with this one
+    // behind it.
+    #[tactic(auto, using(crate::proofs::AttributeLaws::facts_more, crate::proofs::AttributeLaws::facts_other))]
     #[inline(always)]
     fn keep(&mut self, name: u16, a: FirstAttribute)
-        ensures { self.new ≡ with_fact self.old name a }
+        ensures { (list : List NameAttribute) → self.old ≡ facts list → self.new ≡ facts (list ++ (record { name = name; form = a.form; value = a.value } ∷ [])) }
     {
         match name {
             1 => self.compile_unit = self.compile_unit.or(Some(a)),
@@ -41,7 +43,7 @@ impl Facts {
 
 // The facts of the entry whose values begin at `at`, in a part up to `end`, and the place past its last value. Its declaration's pairs of
 // name and form begin at `pairs`, in a part up to `pairs_end`.
-#[tactic(auto, using(crate::proofs::AttributeLaws::facts_step, crate::proofs::AttributeLaws::facts_start, abbreviations::proofs::AbbreviationLaws::pair_forward))]
+#[tactic(auto, using(crate::proofs::AttributeLaws::facts_step, abbreviations::proofs::AbbreviationLaws::pair_forward))]
 #[inline(always)]
 pub fn read_facts(
     order: RunTimeEndian,

@@ -4,7 +4,7 @@ use Prim.Native.Nat.{ℕ, ◌+◌, ◌-◌}
 use mathlib.Core.Path.{◌≡◌, refl, sym, ap, ◌∙◌}
 use mathlib.Core.Bool.{Bool, true, false, cond}
 use mathlib.Core.List.{List}
-use Rattle.std.specs.Prelude.{Option, Some, None}
+use Rattle.std.specs.Prelude.{Option, Some, None, option_map}
 use Rattle.reader.proofs.OutcomeLaws.{none-ne-some, some-injective}
 use native.Mathlib.Omega.{arith}
 use lib.Dec.{eqb}
@@ -17,7 +17,7 @@ use Rattle.reader.specs.declared.common.NameEntryOffset.{NameEntryOffset}
 use Rattle.reader.proofs.OutcomeLaws.{refused-answered, same_answer, bind_answered, bind_same}
 use Rattle.reader.proofs.PartLaws.{skip_answered}
 use Rattle.leb128.proofs.Leb128Laws.{leb128-forward}
-use Rattle.abbreviations.specs.Abbreviations.{Declaration, handed_out, table, find, found}
+use Rattle.abbreviations.specs.Abbreviations.{Declaration, abbreviation_of, table, find, found}
 use Rattle.abbreviations.proofs.AbbreviationLaws.{declaration_read, found_in_table}
 use Rattle.index.specs.declared.layout.NameIndex.{NameIndex}
 use Rattle.index.specs.declared.layout.Parts.{Parts}
@@ -54,7 +54,7 @@ kept v = record { value = facts v.list; next = v.next }
 -- a declaration that was found tells the same of both: its pairs can all be read
 found_tells : (order : RunTimeEndian) (s : List ℕ) (p : Parts) (at : ℕ) (code : Read ℕ) (declared : Option Declaration)
     → find code.value (table s p.abbreviation_table p.entry_pool) ≡ answered declared
-    → (with_declared order s p at code declared >>= λ e. answered (whole_of e)) ≡ with_found order s p code (handed_out declared)
+    → (with_declared order s p at code declared >>= λ e. answered (whole_of e)) ≡ with_found order s p code (option_map abbreviation_of declared)
 unfolding with_found
 found_tells order s p at code None e = refl
 found_tells order s p at code (Some d) e =
@@ -72,25 +72,25 @@ found_tells order s p at code (Some d) e =
 pub read_step : (order : RunTimeEndian) (s : List ℕ) (p : Parts) (at : ℕ) → entry_read order s p at ≡ (do
   code ← leb128 unsigned_limit s at p.end
   cond (eqb code.value 0) (answered None) (do
-    a ← found code.value s p.abbreviation_table p.entry_pool
+    a ← found s p.abbreviation_table p.entry_pool code.value
     with_found order s p code a))
 unfolding entry_read entry found
 read_step order s p at = by_code (leb128 unsigned_limit s at p.end)
   where
     by_search : (code : Read ℕ) (o : Outcome (Option Declaration)) → find code.value (table s p.abbreviation_table p.entry_pool) ≡ o
-        → ((o >>= with_declared order s p at code) >>= λ e. answered (whole_of e)) ≡ ((o >>= λ d. answered (handed_out d)) >>= with_found order s p code)
+        → ((o >>= with_declared order s p at code) >>= λ e. answered (whole_of e)) ≡ ((o >>= λ d. answered (option_map abbreviation_of d)) >>= with_found order s p code)
     by_search code (answered declared) e = found_tells order s p at code declared e
     by_search code (refused n v) e = refl
 
     by_zero : (t : Bool) (code : Read ℕ)
         → (cond t (answered None) (find code.value (table s p.abbreviation_table p.entry_pool) >>= with_declared order s p at code) >>= λ e. answered (whole_of e))
-        ≡ cond t (answered None) ((find code.value (table s p.abbreviation_table p.entry_pool) >>= λ d. answered (handed_out d)) >>= with_found order s p code)
+        ≡ cond t (answered None) ((find code.value (table s p.abbreviation_table p.entry_pool) >>= λ d. answered (option_map abbreviation_of d)) >>= with_found order s p code)
     by_zero true code = refl
     by_zero false code = by_search code _ refl
 
     by_code : (o : Outcome (Read ℕ))
         → ((o >>= λ code. cond (eqb code.value 0) (answered None) (find code.value (table s p.abbreviation_table p.entry_pool) >>= with_declared order s p at code)) >>= λ e. answered (whole_of e))
-        ≡ (o >>= λ code. cond (eqb code.value 0) (answered None) ((find code.value (table s p.abbreviation_table p.entry_pool) >>= λ d. answered (handed_out d)) >>= with_found order s p code))
+        ≡ (o >>= λ code. cond (eqb code.value 0) (answered None) ((find code.value (table s p.abbreviation_table p.entry_pool) >>= λ d. answered (option_map abbreviation_of d)) >>= with_found order s p code))
     by_code (answered code) = by_zero (eqb code.value 0) code
     by_code (refused n v) = refl
 

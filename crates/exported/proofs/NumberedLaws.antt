@@ -99,12 +99,12 @@ pair_numbered s at end =
     (cond_numbered (eqb name.value 0) (demand (eqb form.value 0) 5 0) (refuse_if (eqb form.value 0) 6 0) (demand_numbered (eqb form.value 0) 5 0 refl) (refuse_numbered (eqb form.value 0) 6 0 refl))
     tt
 
-pairs_numbered : (turns : ℕ) (s : List ℕ) (at end : ℕ) → Numbered (attributes_in turns s at end)
+pairs_numbered : (turns : ℕ) (s : List ℕ) (at end : ℕ) → Numbered (attributes_in s turns at end)
 unfolding attributes_in
 pairs_numbered zero s at end = refl
 pairs_numbered (suc turns) s at end =
     bind_numbered (pair s at end) _ (pair_numbered s at end) λ p.
-    cond_numbered (eqb p.name 0) _ _ tt (bind_numbered (attributes_in turns s p.next end) _ (pairs_numbered turns s p.next end) (λ rest. tt))
+    cond_numbered (eqb p.name 0) _ _ tt (bind_numbered (attributes_in s turns p.next end) _ (pairs_numbered turns s p.next end) (λ rest. tt))
 
 head_numbered : (s : List ℕ) (at end : ℕ) → Numbered (head s at end)
 unfolding head
@@ -119,7 +119,7 @@ with_numbered : (s : List ℕ) (end : ℕ) (h : Option Head) → Numbered (with_
 unfolding with_attributes attributes
 with_numbered s end None = tt
 with_numbered s end (Some h) =
-    bind_numbered (attributes_in (left_at s h.next end) s h.next end) _ (pairs_numbered (left_at s h.next end) s h.next end) (λ a. tt)
+    bind_numbered (attributes_in s (left_at s h.next end) h.next end) _ (pairs_numbered (left_at s h.next end) s h.next end) (λ a. tt)
 
 declaration_numbered : (s : List ℕ) (at end : ℕ) → Numbered (declaration s at end)
 unfolding declaration

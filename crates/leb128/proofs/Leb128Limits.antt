@@ -1,7 +1,8 @@
--- The laws of LEB128 numbers of 64 and of 16 bits. Callers of the readers cite `unsigned-one` and `u16-one`; the first four are statements of
--- specs/Sanity.antt, and the rest serves the readers' proofs.
+-- The laws of LEB128 numbers of 64 and of 16 bits. Callers of the readers cite the last of these, from
+-- `unsigned-one` on; the first four are statements of specs/Sanity.antt, and the rest serves the readers'
+-- proofs.
 use Prim.Native.Nat.{ℕ, ◌+◌, ◌*◌, ◌-◌, ◌^◌, ◌%◌, ◌≤◌, ◌<◌}
-use mathlib.Core.Path.{◌≡◌, refl, ap, ◌∙◌}
+use mathlib.Core.Path.{◌≡◌, refl, sym, ap, ◌∙◌}
 use mathlib.Core.List.{List}
 use mathlib.Core.Bool.{Bool, true, false, cond}
 use native.Mathlib.Nat.{mul_comm, pow-le-pow_right}
@@ -12,11 +13,12 @@ use borrow.Author.Tests.{lt-ltb, le-ltb, ltb-true}
 use Rattle.reader.specs.Outcome.{Outcome, answered, refused, ◌>>=◌}
 use Rattle.reader.specs.Numbers.{read_byte}
 use Rattle.reader.specs.declared.reader.Read.{Read}
-use Rattle.leb128.specs.Leb128.{number_bytes, number_of_bytes, unsigned_limit, u16_limit, leb128, past_padding}
+use Rattle.leb128.specs.Leb128.{number_bytes, number_of_bytes, unsigned_limit, u16_limit, leb128}
+use Rattle.leb128.specs.Inner.{past_padding}
 use Rattle.leb128.specs.Sanity.{UnsignedReadsBack, U16ReadsBack, UnsignedBelow, U16Below}
-use Rattle.reader.proofs.OutcomeLaws.{bind_same, bind_assoc}
+use Rattle.reader.proofs.OutcomeLaws.{same_answer, bind_answered, bind_same, bind_assoc}
 use Rattle.reader.proofs.NumberLaws.{byte-answered}
-use Rattle.leb128.proofs.Leb128Laws.{prefixed, scaled, scaled-more, width_wide, leb128_step, leb128_step_lem, leb128-below, leb128_back}
+use Rattle.leb128.proofs.Leb128Laws.{prefixed, scaled, scaled-more, width_wide, leb128_step, leb128_step_lem, leb128-below, leb128-forward, leb128_back}
 
 pub unsigned_below : UnsignedBelow
 unsigned_below = leb128-below unsigned_limit
@@ -124,3 +126,20 @@ unsigned-one s at end a = one-byte-number unsigned_limit s at end a (omega arith
 
 pub u16-one : (s : List ℕ) (at end : ℕ) (a : Read ℕ) → read_byte s at end ≡ answered a → a.value < 128 → leb128 u16_limit s at end ≡ answered a
 u16-one s at end a = one-byte-number u16_limit s at end a (omega arith)
+
+-- where its first byte is missing, so is a number
+pub u16_missing : (s : List ℕ) (at end n v : ℕ) → read_byte s at end ≡ refused n v → leb128 u16_limit s at end ≡ refused n v
+u16_missing s at end n v missing = byte_before u16_limit s at end (omega arith) ∙ rw missing
+
+-- a number that begins with any other byte has more bytes than that
+longer-number : (bits : ℕ) (s : List ℕ) (at end : ℕ) (a r : Read ℕ) → 7 ≤ bits → read_byte s at end ≡ answered a → 128 ≤ a.value → leb128 bits s at end ≡ answered r → at + 1 < r.next
+unfolding leb128
+longer-number bits s at end a r h read more e =
+    let (rest, read-rest, same) = bind_answered (leb128 (bits - 7) s a.next end) _ r (rw (byte_before bits s at end h, read, le-ltb a.value 128 more) at e) in
+    let (ahead, inside) = leb128-forward (bits - 7) s a.next end rest read-rest in
+    let (here, value, next) = byte-answered s at end a read in
+    let past : r.next ≡ rest.next = ap (λ r. r.next) (sym (same_answer same)) in
+    omega arith
+
+pub u16-longer : (s : List ℕ) (at end : ℕ) (a r : Read ℕ) → read_byte s at end ≡ answered a → 128 ≤ a.value → leb128 u16_limit s at end ≡ answered r → at + 1 < r.next
+u16-longer s at end a r = longer-number u16_limit s at end a r (omega arith)

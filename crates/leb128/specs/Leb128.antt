@@ -3,7 +3,7 @@
 -- library's `leb` tests "at most" and has nothing to do with LEB128.)
 use Rattle.std.specs.Prelude.{ℕ, zero, suc, ◌+◌, ◌*◌, ◌^◌, ◌%◌, ◌/◌, List, [], ◌∷◌, ◌++◌, map, Bool, false, cond, ◌||◌, length, replicate, leb, ltb}
 use Rattle.std.proofs.Math.Seq.{slice}
-use Rattle.reader.specs.Outcome.{Outcome, answered, ◌>>=◌, ◌>>◌}
+use Rattle.reader.specs.Outcome.{Outcome, answered, ◌>>◌}
 use Rattle.reader.specs.declared.reader.Read.{Read}
 use Rattle.reader.specs.Errors.{fail_if, require}
 use Rattle.reader.specs.declared.error.Error.TheVariants.{BadUnsignedLeb128, UnexpectedEof}
@@ -56,10 +56,3 @@ encoded n = encoded_in n n
 -- the same bytes, each with bit 7 set, then `more` bytes 80, and 00: how an assembler pads a number to a fixed length
 unfoldable pub padded : ℕ → ℕ → List ℕ
 padded more n = map (λ b. b % 128 + 128) (encoded n) ++ (replicate more 0x80 ++ (0 ∷ []))
-
--- What a single function of the code answers: the place past the bytes that pad a number beyond its width, of which none has a bit set. They
--- are a number of 0 bits.
-unfoldable pub past_padding : List ℕ → ℕ → ℕ → Outcome ℕ
-past_padding s at end = do
-  r ← leb128 0 s at end
-  answered r.next

@@ -5,7 +5,8 @@
 
 ghost use Rattle.std.specs.Prelude.{◌≡◌, ◌<◌, ◌≤◌};
 ghost use Rattle.reader.specs.Answers.{outcome};
-ghost use Rattle.leb128.specs.Leb128.{leb128, unsigned_limit, u16_limit, past_padding};
+ghost use Rattle.leb128.specs.Leb128.{leb128, unsigned_limit, u16_limit};
+ghost use Rattle.leb128.specs.Inner.{past_padding};
 
 // Reading.
 pub mod read {

@@ -38,8 +38,8 @@ name number hash string entries = Line.Name (record { name = record { 0 = number
 
 -- Case A's lines; then lines with several digits in every field, with the largest numbers that the code's types hold (of the place that of the longest
 -- section), and with "-" for missed and for a hash; no indexes, and twenty; and two refusals.
-abbrev pub written : List (List ℕ)
-written =
+abbrev pub lines_written : List (List ℕ)
+lines_written =
     line_text (index 0 3 2 (Some 0))
     ∷ line_text (name 0 (Some 4) 1 1)
     ∷ line_text (name 1 (Some 7) 5 1)
@@ -57,8 +57,8 @@ written =
     ∷ refused_text 13
     ∷ []
 
-abbrev pub expected : List String
-expected =
+abbrev pub lines_expected : List String
+lines_expected =
     "index 0 names 3 buckets 2 missed 0\n"
     ∷ "name 0 hash 4 string 1 entries 1\n"
     ∷ "name 1 hash 7 string 5 entries 1\n"
@@ -77,4 +77,4 @@ expected =
     ∷ []
 
 abbrev pub LinesAsWritten : Type 0
-LinesAsWritten = written ≡ map bytes expected
+LinesAsWritten = lines_written ≡ map bytes lines_expected

@@ -14,7 +14,7 @@ pub fn get_abbreviation(
     index: NameIndex,
     code: u64,
 ) -> Result<Option<NameAbbreviation>, Error>
-    ensures { outcome result ≡ get_abbreviation code section.now index }
+    ensures { outcome result ≡ get_abbreviation section.now index code }
 {
     let p = fit(section, index)?;
     get(section, p.abbreviation_table, p.entry_pool, code)

@@ -30,10 +30,10 @@ use Rattle.index_query.specs.Series.{record_of_entry, series_records}
 use Rattle.index_query.specs.Records.{all_series, index_records}
 use Rattle.section_records.specs.Records.{header_records, headers_left, section_records}
 use Rattle.query_plan.specs.Plans.{queried}
-use Rattle.query.specs.Query.{written, section_query}
+use Rattle.query.specs.Query.{overlaid, section_query}
 use Rattle.p_cases.specs.CaseA.{case_a, strings_a, index_a, second_start}
 use Rattle.p_cases.specs.Cases.{PCases}
 
 pub p_cases : PCases
-unfolding PCases case_a second_start index_a numbers_from filterb take_while memberb nth_of stored_start stored_hash bucket_of names_from run_from from_start run storing names_of_hash start_above any_above is_missed missed_names verdict table_check number_at name_entry_handed entry name_entry values first form_value as_flag as_unsigned as_offset read_byte find table listing declaration with_attributes head attributes attributes_in pair leb128 number_of_bytes number_bytes complete base128 fitted parts place places_from sizes word_bytes hash_bytes longest read_number skipped spelled digits strings_a section_query queried written section_records headers_left header_records headers_from header_at header header_cut header_body counts augmentation initial_length cut name_index index_of cut_parts passed_over parsed ending index_records candidates find_by_hash find_by_bucket first_name matching name_matches text_is same_bytes name_string name_string_offset nth_word get_str zero_from before_zero all_series series_records record_of_entry shown_by followed_by items_of counted series series_start series_entry entries_from facts entry_record shown entry_unit type_shown compile_shown default_shown compile_unit_of type_unit_of unit_number unit_number_in numbered_unit numbered_type_unit nth_compile_unit unit_in default_compile_unit die_offset_of die_offset_in
+unfolding PCases case_a second_start index_a numbers_from filterb take_while memberb nth_of stored_start stored_hash bucket_of names_from run_from from_start run storing names_of_hash start_above any_above is_missed missed_names verdict table_check number_at name_entry_handed entry name_entry values first form_value as_flag as_unsigned as_offset read_byte find table listing declaration with_attributes head attributes attributes_in pair leb128 number_of_bytes number_bytes complete base128 fitted parts place places_from sizes word_bytes hash_bytes longest read_number skipped spelled digits strings_a section_query queried overlaid section_records headers_left header_records headers_from header_at header header_cut header_body counts augmentation initial_length cut name_index index_of cut_parts passed_over parsed ending index_records candidates find_by_hash find_by_bucket first_name matching name_matches text_is same_bytes name_string name_string_offset nth_word get_str zero_from before_zero all_series series_records record_of_entry shown_by followed_by items_of counted series series_start series_entry entries_from facts entry_record shown entry_unit type_shown compile_shown default_shown compile_unit_of type_unit_of unit_number unit_number_in numbered_unit numbered_type_unit nth_compile_unit unit_in default_compile_unit die_offset_of die_offset_in
 p_cases = refl

@@ -37,7 +37,7 @@ use Rattle.p_cases.proofs.Queries.{all_open_a, complete-a, query_of_a_lem}
 use Rattle.p_cases.specs.CaseA.{case_a, second_start, strings_a}
 use Rattle.p_cases.specs.Exported.{BucketCallsOfA, BucketGiven, BucketListed, BucketRun, CallsComplete, CallsExpected, CallsFound, HeaderCallsOfA, end_of_a, headers_of_a, EntriesGiven, EntriesListed, EntryCallsOfA, HashCallsOfA, HashGiven, HashListed, QueryFound, QueryGiven, QueryRefused, RefusedLeaves, bucket_calls_of_a, entry_calls_of_a, handle_a, hash_calls_of_a, nine_at}
 use Rattle.p_cases.specs.Queries.{de, function_at, old, open_a}
-use Rattle.query.specs.Query.{section_query, written}
+use Rattle.query.specs.Query.{section_query, overlaid}
 use Rattle.query_plan.specs.Plans.{Queried, queried}
 use Rattle.reader.specs.Errors.{longest}
 use Rattle.reader.specs.Listing.{counted, followed_by, items_of, listing, shown_by}
@@ -111,7 +111,7 @@ unfolding case_a handle_a order_of index_from with_format header_for strings_a f
 calls_expected = refl
 
 pub query_refused : QueryRefused
-unfolding case_a second_start order_of query_answer strings_a section_query queried written section_records headers_left header_records headers_from header_at header header_cut header_body counts augmentation initial_length read_number skipped cut spelled digits name_index index_of cut_parts passed_over parts place places_from sizes word_bytes hash_bytes longest parsed ending table listing declaration with_attributes head attributes attributes_in pair leb128 number_of_bytes number_bytes complete base128 index_records candidates find_by_hash find_by_bucket first_name names_of_hash run run_from from_start storing stored_start stored_hash nth_of bucket_of names_from numbers_from filterb take_while memberb number_at matching name_matches text_is same_bytes name_string name_string_offset nth_word get_str zero_from before_zero all_series series_records record_of_entry shown_by followed_by items_of counted series series_start series_entry entries_from entry values first facts form_value as_flag as_unsigned as_offset read_byte find fitted entry_record shown entry_unit type_shown compile_shown default_shown compile_unit_of type_unit_of unit_number unit_number_in numbered_unit numbered_type_unit nth_compile_unit unit_in default_compile_unit die_offset_of die_offset_in
+unfolding case_a second_start order_of query_answer strings_a section_query queried overlaid section_records headers_left header_records headers_from header_at header header_cut header_body counts augmentation initial_length read_number skipped cut spelled digits name_index index_of cut_parts passed_over parts place places_from sizes word_bytes hash_bytes longest parsed ending table listing declaration with_attributes head attributes attributes_in pair leb128 number_of_bytes number_bytes complete base128 index_records candidates find_by_hash find_by_bucket first_name names_of_hash run run_from from_start storing stored_start stored_hash nth_of bucket_of names_from numbers_from filterb take_while memberb number_at matching name_matches text_is same_bytes name_string name_string_offset nth_word get_str zero_from before_zero all_series series_records record_of_entry shown_by followed_by items_of counted series series_start series_entry entries_from entry values first facts form_value as_flag as_unsigned as_offset read_byte find fitted entry_record shown entry_unit type_shown compile_shown default_shown compile_unit_of type_unit_of unit_number unit_number_in numbered_unit numbered_type_unit nth_compile_unit unit_in default_compile_unit die_offset_of die_offset_in
 query_refused = refl
 
 pub refused_leaves : RefusedLeaves

@@ -34,7 +34,7 @@ use Rattle.index_query.specs.Series.{record_of_entry, series_records}
 use Rattle.index_query.specs.Records.{all_series, index_records}
 use Rattle.section_records.specs.Records.{header_records, headers_left, section_records}
 use Rattle.query_plan.specs.Plans.{queried}
-use Rattle.query.specs.Query.{written, section_query}
+use Rattle.query.specs.Query.{overlaid, section_query}
 use Rattle.demand3.specs.Expected.{string_matches, hash_matches, name_is_match, matching_names, records_of_name, records_of_index, expected}
 use Rattle.demand3.specs.Demand3.{of_none, and_then}
 use Rattle.demand3.proofs.QueryLaws.{demand3}
@@ -69,26 +69,26 @@ pub all_listed_in_a : AllListedInA
 all_listed_in_a = (demand3.completeness RunTimeEndian.Little case_a index_a lent_a.0 lent_a.1).0 says-complete
 
 pub query_of_a_lem : query_of_a ≡ found_in_a
-unfolding case_a strings_a header_a index_a section_query queried written section_records headers_left header_records headers_from header_at header header_cut header_body counts augmentation initial_length read_number skipped cut spelled digits name_index index_of cut_parts passed_over parts place places_from sizes word_bytes hash_bytes longest parsed ending table listing declaration with_attributes head attributes attributes_in pair leb128 number_of_bytes number_bytes complete base128 index_records candidates find_by_hash find_by_bucket first_name names_of_hash run run_from from_start storing stored_start stored_hash nth_of bucket_of names_from numbers_from filterb take_while memberb number_at matching name_matches text_is same_bytes name_string name_string_offset nth_word get_str zero_from before_zero all_series series_records record_of_entry shown_by followed_by items_of counted series series_start series_entry entries_from entry values first facts form_value as_flag as_unsigned as_offset read_byte find fitted entry_record shown entry_unit type_shown compile_shown default_shown compile_unit_of type_unit_of unit_number unit_number_in numbered_unit numbered_type_unit nth_compile_unit unit_in default_compile_unit die_offset_of die_offset_in
+unfolding case_a strings_a header_a index_a section_query queried overlaid section_records headers_left header_records headers_from header_at header header_cut header_body counts augmentation initial_length read_number skipped cut spelled digits name_index index_of cut_parts passed_over parts place places_from sizes word_bytes hash_bytes longest parsed ending table listing declaration with_attributes head attributes attributes_in pair leb128 number_of_bytes number_bytes complete base128 index_records candidates find_by_hash find_by_bucket first_name names_of_hash run run_from from_start storing stored_start stored_hash nth_of bucket_of names_from numbers_from filterb take_while memberb number_at matching name_matches text_is same_bytes name_string name_string_offset nth_word get_str zero_from before_zero all_series series_records record_of_entry shown_by followed_by items_of counted series series_start series_entry entries_from entry values first facts form_value as_flag as_unsigned as_offset read_byte find fitted entry_record shown entry_unit type_shown compile_shown default_shown compile_unit_of type_unit_of unit_number unit_number_in numbered_unit numbered_type_unit nth_compile_unit unit_in default_compile_unit die_offset_of die_offset_in
 query_of_a_lem = refl
 
 pub all_open_a : AllOpenA
-unfolding case_a strings_a header_a index_a section_query queried written section_records headers_left header_records headers_from header_at header header_cut header_body counts augmentation initial_length read_number skipped cut spelled digits name_index index_of cut_parts passed_over parts place places_from sizes word_bytes hash_bytes longest parsed ending table listing declaration with_attributes head attributes attributes_in pair leb128 number_of_bytes number_bytes complete base128 index_records candidates find_by_hash find_by_bucket first_name names_of_hash run run_from from_start storing stored_start stored_hash nth_of bucket_of names_from numbers_from filterb take_while memberb number_at matching name_matches text_is same_bytes name_string name_string_offset nth_word get_str zero_from before_zero all_series series_records record_of_entry shown_by followed_by items_of counted series series_start series_entry entries_from entry values first facts form_value as_flag as_unsigned as_offset read_byte find fitted entry_record shown entry_unit type_shown compile_shown default_shown compile_unit_of type_unit_of unit_number unit_number_in numbered_unit numbered_type_unit nth_compile_unit unit_in default_compile_unit die_offset_of die_offset_in header_step after_header first_header has_end up_to_end
+unfolding case_a strings_a header_a index_a section_query queried overlaid section_records headers_left header_records headers_from header_at header header_cut header_body counts augmentation initial_length read_number skipped cut spelled digits name_index index_of cut_parts passed_over parts place places_from sizes word_bytes hash_bytes longest parsed ending table listing declaration with_attributes head attributes attributes_in pair leb128 number_of_bytes number_bytes complete base128 index_records candidates find_by_hash find_by_bucket first_name names_of_hash run run_from from_start storing stored_start stored_hash nth_of bucket_of names_from numbers_from filterb take_while memberb number_at matching name_matches text_is same_bytes name_string name_string_offset nth_word get_str zero_from before_zero all_series series_records record_of_entry shown_by followed_by items_of counted series series_start series_entry entries_from entry values first facts form_value as_flag as_unsigned as_offset read_byte find fitted entry_record shown entry_unit type_shown compile_shown default_shown compile_unit_of type_unit_of unit_number unit_number_in numbered_unit numbered_type_unit nth_compile_unit unit_in default_compile_unit die_offset_of die_offset_in header_step after_header first_header has_end up_to_end
 all_open_a = ((record { answer = Ok (Some header_a); cursor = record { at = 109 } } ∷ record { answer = Ok None; cursor = record { at = 109 } } ∷ [], step_then refl (step_then refl no_steps), refl, refl), and_then refl of_none)
 
 pub complete-a : CompleteA
-unfolding case_a strings_a header_a index_a section_query queried written section_records headers_left header_records headers_from header_at header header_cut header_body counts augmentation initial_length read_number skipped cut spelled digits name_index index_of cut_parts passed_over parts place places_from sizes word_bytes hash_bytes longest parsed ending table listing declaration with_attributes head attributes attributes_in pair leb128 number_of_bytes number_bytes complete base128 index_records candidates find_by_hash find_by_bucket first_name names_of_hash run run_from from_start storing stored_start stored_hash nth_of bucket_of names_from numbers_from filterb take_while memberb number_at matching name_matches text_is same_bytes name_string name_string_offset nth_word get_str zero_from before_zero all_series series_records record_of_entry shown_by followed_by items_of counted series series_start series_entry entries_from entry values first facts form_value as_flag as_unsigned as_offset read_byte find fitted entry_record shown entry_unit type_shown compile_shown default_shown compile_unit_of type_unit_of unit_number unit_number_in numbered_unit numbered_type_unit nth_compile_unit unit_in default_compile_unit die_offset_of die_offset_in start_above any_above is_missed missed_names verdict table_check
+unfolding case_a strings_a header_a index_a section_query queried overlaid section_records headers_left header_records headers_from header_at header header_cut header_body counts augmentation initial_length read_number skipped cut spelled digits name_index index_of cut_parts passed_over parts place places_from sizes word_bytes hash_bytes longest parsed ending table listing declaration with_attributes head attributes attributes_in pair leb128 number_of_bytes number_bytes complete base128 index_records candidates find_by_hash find_by_bucket first_name names_of_hash run run_from from_start storing stored_start stored_hash nth_of bucket_of names_from numbers_from filterb take_while memberb number_at matching name_matches text_is same_bytes name_string name_string_offset nth_word get_str zero_from before_zero all_series series_records record_of_entry shown_by followed_by items_of counted series series_start series_entry entries_from entry values first facts form_value as_flag as_unsigned as_offset read_byte find fitted entry_record shown entry_unit type_shown compile_shown default_shown compile_unit_of type_unit_of unit_number unit_number_in numbered_unit numbered_type_unit nth_compile_unit unit_in default_compile_unit die_offset_of die_offset_in start_above any_above is_missed missed_names verdict table_check
 complete-a = and_then (inl refl) of_none
 
 pub found-a : FoundA
 found-a = demand3.query _ case_a strings_a 7 de (old ∷ old ∷ []) _ 1 (open_a ∷ []) all_open_a complete-a (sym query_of_a_lem)
 
 pub query_of_two_lem : query_of_two ≡ found_in_two
-unfolding case_a strings_a header_a index_a section_query queried written section_records headers_left header_records headers_from header_at header header_cut header_body counts augmentation initial_length read_number skipped cut spelled digits name_index index_of cut_parts passed_over parts place places_from sizes word_bytes hash_bytes longest parsed ending table listing declaration with_attributes head attributes attributes_in pair leb128 number_of_bytes number_bytes complete base128 index_records candidates find_by_hash find_by_bucket first_name names_of_hash run run_from from_start storing stored_start stored_hash nth_of bucket_of names_from numbers_from filterb take_while memberb number_at matching name_matches text_is same_bytes name_string name_string_offset nth_word get_str zero_from before_zero all_series series_records record_of_entry shown_by followed_by items_of counted series series_start series_entry entries_from entry values first facts form_value as_flag as_unsigned as_offset read_byte find fitted entry_record shown entry_unit type_shown compile_shown default_shown compile_unit_of type_unit_of unit_number unit_number_in numbered_unit numbered_type_unit nth_compile_unit unit_in default_compile_unit die_offset_of die_offset_in two_indexes second_header second_index
+unfolding case_a strings_a header_a index_a section_query queried overlaid section_records headers_left header_records headers_from header_at header header_cut header_body counts augmentation initial_length read_number skipped cut spelled digits name_index index_of cut_parts passed_over parts place places_from sizes word_bytes hash_bytes longest parsed ending table listing declaration with_attributes head attributes attributes_in pair leb128 number_of_bytes number_bytes complete base128 index_records candidates find_by_hash find_by_bucket first_name names_of_hash run run_from from_start storing stored_start stored_hash nth_of bucket_of names_from numbers_from filterb take_while memberb number_at matching name_matches text_is same_bytes name_string name_string_offset nth_word get_str zero_from before_zero all_series series_records record_of_entry shown_by followed_by items_of counted series series_start series_entry entries_from entry values first facts form_value as_flag as_unsigned as_offset read_byte find fitted entry_record shown entry_unit type_shown compile_shown default_shown compile_unit_of type_unit_of unit_number unit_number_in numbered_unit numbered_type_unit nth_compile_unit unit_in default_compile_unit die_offset_of die_offset_in two_indexes second_header second_index
 query_of_two_lem = refl
 
 pub all_open_two : AllOpenTwo
-unfolding case_a strings_a header_a index_a section_query queried written section_records headers_left header_records headers_from header_at header header_cut header_body counts augmentation initial_length read_number skipped cut spelled digits name_index index_of cut_parts passed_over parts place places_from sizes word_bytes hash_bytes longest parsed ending table listing declaration with_attributes head attributes attributes_in pair leb128 number_of_bytes number_bytes complete base128 index_records candidates find_by_hash find_by_bucket first_name names_of_hash run run_from from_start storing stored_start stored_hash nth_of bucket_of names_from numbers_from filterb take_while memberb number_at matching name_matches text_is same_bytes name_string name_string_offset nth_word get_str zero_from before_zero all_series series_records record_of_entry shown_by followed_by items_of counted series series_start series_entry entries_from entry values first facts form_value as_flag as_unsigned as_offset read_byte find fitted entry_record shown entry_unit type_shown compile_shown default_shown compile_unit_of type_unit_of unit_number unit_number_in numbered_unit numbered_type_unit nth_compile_unit unit_in default_compile_unit die_offset_of die_offset_in two_indexes second_header second_index header_step after_header first_header has_end up_to_end
+unfolding case_a strings_a header_a index_a section_query queried overlaid section_records headers_left header_records headers_from header_at header header_cut header_body counts augmentation initial_length read_number skipped cut spelled digits name_index index_of cut_parts passed_over parts place places_from sizes word_bytes hash_bytes longest parsed ending table listing declaration with_attributes head attributes attributes_in pair leb128 number_of_bytes number_bytes complete base128 index_records candidates find_by_hash find_by_bucket first_name names_of_hash run run_from from_start storing stored_start stored_hash nth_of bucket_of names_from numbers_from filterb take_while memberb number_at matching name_matches text_is same_bytes name_string name_string_offset nth_word get_str zero_from before_zero all_series series_records record_of_entry shown_by followed_by items_of counted series series_start series_entry entries_from entry values first facts form_value as_flag as_unsigned as_offset read_byte find fitted entry_record shown entry_unit type_shown compile_shown default_shown compile_unit_of type_unit_of unit_number unit_number_in numbered_unit numbered_type_unit nth_compile_unit unit_in default_compile_unit die_offset_of die_offset_in two_indexes second_header second_index header_step after_header first_header has_end up_to_end
 all_open_two = (
   (
     record { answer = Ok (Some header_a); cursor = record { at = 109 } } ∷ record { answer = Ok (Some second_header); cursor = record { at = 178 } } ∷ record { answer = Ok None; cursor = record { at = 178 } } ∷ [],
@@ -100,9 +100,9 @@ all_open_two = (
 )
 
 pub complete_two : CompleteTwo
-unfolding case_a strings_a header_a index_a section_query queried written section_records headers_left header_records headers_from header_at header header_cut header_body counts augmentation initial_length read_number skipped cut spelled digits name_index index_of cut_parts passed_over parts place places_from sizes word_bytes hash_bytes longest parsed ending table listing declaration with_attributes head attributes attributes_in pair leb128 number_of_bytes number_bytes complete base128 index_records candidates find_by_hash find_by_bucket first_name names_of_hash run run_from from_start storing stored_start stored_hash nth_of bucket_of names_from numbers_from filterb take_while memberb number_at matching name_matches text_is same_bytes name_string name_string_offset nth_word get_str zero_from before_zero all_series series_records record_of_entry shown_by followed_by items_of counted series series_start series_entry entries_from entry values first facts form_value as_flag as_unsigned as_offset read_byte find fitted entry_record shown entry_unit type_shown compile_shown default_shown compile_unit_of type_unit_of unit_number unit_number_in numbered_unit numbered_type_unit nth_compile_unit unit_in default_compile_unit die_offset_of die_offset_in two_indexes second_header second_index start_above any_above is_missed missed_names verdict table_check
+unfolding case_a strings_a header_a index_a section_query queried overlaid section_records headers_left header_records headers_from header_at header header_cut header_body counts augmentation initial_length read_number skipped cut spelled digits name_index index_of cut_parts passed_over parts place places_from sizes word_bytes hash_bytes longest parsed ending table listing declaration with_attributes head attributes attributes_in pair leb128 number_of_bytes number_bytes complete base128 index_records candidates find_by_hash find_by_bucket first_name names_of_hash run run_from from_start storing stored_start stored_hash nth_of bucket_of names_from numbers_from filterb take_while memberb number_at matching name_matches text_is same_bytes name_string name_string_offset nth_word get_str zero_from before_zero all_series series_records record_of_entry shown_by followed_by items_of counted series series_start series_entry entries_from entry values first facts form_value as_flag as_unsigned as_offset read_byte find fitted entry_record shown entry_unit type_shown compile_shown default_shown compile_unit_of type_unit_of unit_number unit_number_in numbered_unit numbered_type_unit nth_compile_unit unit_in default_compile_unit die_offset_of die_offset_in two_indexes second_header second_index start_above any_above is_missed missed_names verdict table_check
 complete_two = and_then (inl refl) (and_then (inr refl) of_none)
 
 pub expected_two : ExpectedTwo
-unfolding case_a strings_a header_a index_a section_query queried written section_records headers_left header_records headers_from header_at header header_cut header_body counts augmentation initial_length read_number skipped cut spelled digits name_index index_of cut_parts passed_over parts place places_from sizes word_bytes hash_bytes longest parsed ending table listing declaration with_attributes head attributes attributes_in pair leb128 number_of_bytes number_bytes complete base128 index_records candidates find_by_hash find_by_bucket first_name names_of_hash run run_from from_start storing stored_start stored_hash nth_of bucket_of names_from numbers_from filterb take_while memberb number_at matching name_matches text_is same_bytes name_string name_string_offset nth_word get_str zero_from before_zero all_series series_records record_of_entry shown_by followed_by items_of counted series series_start series_entry entries_from entry values first facts form_value as_flag as_unsigned as_offset read_byte find fitted entry_record shown entry_unit type_shown compile_shown default_shown compile_unit_of type_unit_of unit_number unit_number_in numbered_unit numbered_type_unit nth_compile_unit unit_in default_compile_unit die_offset_of die_offset_in two_indexes second_header second_index expected records_of_index records_of_name matching_names name_is_match hash_matches string_matches flat_map
+unfolding case_a strings_a header_a index_a section_query queried overlaid section_records headers_left header_records headers_from header_at header header_cut header_body counts augmentation initial_length read_number skipped cut spelled digits name_index index_of cut_parts passed_over parts place places_from sizes word_bytes hash_bytes longest parsed ending table listing declaration with_attributes head attributes attributes_in pair leb128 number_of_bytes number_bytes complete base128 index_records candidates find_by_hash find_by_bucket first_name names_of_hash run run_from from_start storing stored_start stored_hash nth_of bucket_of names_from numbers_from filterb take_while memberb number_at matching name_matches text_is same_bytes name_string name_string_offset nth_word get_str zero_from before_zero all_series series_records record_of_entry shown_by followed_by items_of counted series series_start series_entry entries_from entry values first facts form_value as_flag as_unsigned as_offset read_byte find fitted entry_record shown entry_unit type_shown compile_shown default_shown compile_unit_of type_unit_of unit_number unit_number_in numbered_unit numbered_type_unit nth_compile_unit unit_in default_compile_unit die_offset_of die_offset_in two_indexes second_header second_index expected records_of_index records_of_name matching_names name_is_match hash_matches string_matches flat_map
 expected_two = refl

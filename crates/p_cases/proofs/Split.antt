@@ -34,7 +34,7 @@ use Rattle.index_query.specs.Series.{record_of_entry, series_records}
 use Rattle.index_query.specs.Records.{all_series, index_records}
 use Rattle.section_records.specs.Records.{header_records, headers_left, section_records}
 use Rattle.query_plan.specs.Plans.{queried}
-use Rattle.query.specs.Query.{written, section_query}
+use Rattle.query.specs.Query.{overlaid, section_query}
 use Rattle.demand3.specs.Expected.{string_matches, hash_matches, name_is_match, matching_names, records_of_name, records_of_index, expected}
 use Rattle.demand3.specs.Demand3.{of_none, and_then}
 use Rattle.demand3.proofs.QueryLaws.{demand3}
@@ -44,7 +44,7 @@ use Rattle.p_cases.specs.Split.{split_units, split_header, split_index, open_spl
 use Rattle.std.specs.Prelude.{Some, None, Ok}
 
 pub found_in_split : FoundInSplit
-unfolding split_units strings_a section_query queried written section_records headers_left header_records headers_from header_at header header_cut header_body counts augmentation initial_length read_number skipped cut spelled digits name_index index_of cut_parts passed_over parts place places_from sizes word_bytes hash_bytes longest parsed ending table listing declaration with_attributes head attributes attributes_in pair leb128 number_of_bytes number_bytes complete base128 index_records candidates names_from numbers_from filterb matching name_matches text_is same_bytes name_string name_string_offset nth_word get_str zero_from before_zero all_series series_records record_of_entry shown_by followed_by items_of counted series series_start series_entry entries_from entry values first facts form_value as_unsigned as_offset read_byte find fitted entry_record shown entry_unit type_shown type_unit_of unit_number unit_number_in numbered_type_unit die_offset_of die_offset_in nth_type_unit foreign_type_unit
+unfolding split_units strings_a section_query queried overlaid section_records headers_left header_records headers_from header_at header header_cut header_body counts augmentation initial_length read_number skipped cut spelled digits name_index index_of cut_parts passed_over parts place places_from sizes word_bytes hash_bytes longest parsed ending table listing declaration with_attributes head attributes attributes_in pair leb128 number_of_bytes number_bytes complete base128 index_records candidates names_from numbers_from filterb matching name_matches text_is same_bytes name_string name_string_offset nth_word get_str zero_from before_zero all_series series_records record_of_entry shown_by followed_by items_of counted series series_start series_entry entries_from entry values first facts form_value as_unsigned as_offset read_byte find fitted entry_record shown entry_unit type_shown type_unit_of unit_number unit_number_in numbered_type_unit die_offset_of die_offset_in nth_type_unit foreign_type_unit
 found_in_split = refl
 
 pub all_open_split : AllOpenSplit

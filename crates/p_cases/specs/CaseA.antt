@@ -147,7 +147,7 @@ BytesOfA = name_string_bytes RunTimeEndian.Little case_a strings_a index_a (reco
 -- code 1 is declared with tag 0x2e, its pairs at 86; code 2 is not declared
 abbrev pub AbbreviationsOfA : Type 0
 AbbreviationsOfA =
-    get_abbreviation 1 case_a index_a ∷ get_abbreviation 2 case_a index_a ∷ []
+    get_abbreviation case_a index_a 1 ∷ get_abbreviation case_a index_a 2 ∷ []
     ≡ answered (Some (record { code = 1; tag = 0x2e; attributes = 86; next = 90 })) ∷ answered None ∷ []
 
 -- the names' cursors are at 91, 97 and 103, which is what `EntryLookups` supposes; 3 is refused at the end of the entry offsets, and 4 at

@@ -5,7 +5,7 @@ use Rattle.reader.specs.Parts.{left_at}
 use Rattle.abbreviations.proofs.get.Given as goal
 
 abbrev pub invariant-loop-declaration : goal.invariant-loop-declaration
-invariant-loop-declaration l = found l.code l.s l.at l.end ≡ found l.code l.s l.place l.end
+invariant-loop-declaration l = found l.s l.at l.end l.code ≡ found l.s l.place l.end l.code
 
 abbrev pub decreases-loop-declaration : goal.decreases-loop-declaration
 decreases-loop-declaration l = left_at l.s l.place l.end

@@ -1,7 +1,7 @@
 -- At every turn what was asked for is what is left, and each byte moves forward.
 use Prim.Native.Nat.{◌-◌}
 use mathlib.Core.Path.{◌≡◌}
-use Rattle.leb128.specs.Leb128.{past_padding}
+use Rattle.leb128.specs.Inner.{past_padding}
 use Rattle.leb128.proofs.read.skip_padding.Given as goal
 
 abbrev pub invariant-loop-pad : goal.invariant-loop-pad
