@@ -5,7 +5,7 @@ use Rattle.reader.specs.Outcome.{Outcome, answered, refused}
 use Rattle.reader.specs.declared.common.DebugInfoOffset.{DebugInfoOffset}
 use Rattle.reader.specs.declared.common.DebugStrOffset.{DebugStrOffset}
 use Rattle.reader.specs.declared.common.DebugTypeSignature.{DebugTypeSignature}
-use Rattle.index.specs.declared.layout.NameIndex.{NameIndex}
+use Rattle.index.specs.declared.layout.Parts.{Parts}
 use Rattle.names.specs.declared.units.NameTypeUnit.{NameTypeUnit}
 use Rattle.entries.specs.declared.series.NameEntryIter.{NameEntryIter}
 use Rattle.answers.specs.declared.Answer.{Answer}
@@ -29,8 +29,8 @@ handed shown (refused n v) = refused_answer n v
 
 -- what is handed over of an answer:
 -- an opened index
-abbrev pub open_answer : NameIndex → Answer
-open_answer i = given 1 0
+abbrev pub open_answer : Parts → Answer
+open_answer p = given 1 0
 
 -- a count
 abbrev pub count_answer : ℕ → Answer

@@ -13,7 +13,7 @@ ghost use Rattle.answers.specs.Answers.{given, refused_answer, handed, open_answ
 
 use entries::NameEntryIter;
 use hashes::NameBucketIter;
-use index::NameIndex;
+use index::Parts;
 use names::NameTypeUnit;
 use reader::{DebugInfoOffset, DebugStrOffset, DebugTypeSignature, Error};
 
@@ -65,7 +65,7 @@ impl Answer {
 }
 
 // An index was opened.
-pub fn open_answer(r: Result<NameIndex, Error>) -> Answer
+pub fn open_answer(r: Result<Parts, Error>) -> Answer
     ensures { result ≡ handed open_answer (outcome r) }
 {
     Answer::handed(r, |_| Answer::given(1, 0))

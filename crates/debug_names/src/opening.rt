@@ -6,9 +6,9 @@ ghost use Rattle.step_answers.specs.Steps.{header_facts};
 ghost use Rattle.exported.specs.Demand3.{next_header_call, open_call};
 
 use answers::{Answer, open_answer};
-use handles::{IndexHandle, header_for, order_of};
+use handles::{IndexHandle, order_of};
 use headers::NameIndexHeaderIter;
-use index::NameIndex;
+use index::{NameIndex, open_index};
 use step_answers::{HeaderAnswer, HeaderFacts, header_answer, header_facts};
 
 // The next header, from a cursor.
@@ -36,5 +36,5 @@ pub extern "C" fn debug_names_header_at(order: u32, section: &[u8], at: usize) -
 pub extern "C" fn debug_names_open(section: &[u8], index: IndexHandle) -> Answer
     ensures { result ≡ open_call section.now index }
 {
-    open_answer(NameIndex::new(section, header_for(NameIndex::from(index))))
+    open_answer(open_index(section, NameIndex::from(index)))
 }

@@ -9,7 +9,7 @@ ghost use Rattle.entry_answers.specs.Entry.{entry_answer};
 ghost use Rattle.exported.specs.Demand3.{next_entry_call};
 
 use answers::{Answer, entries_answer};
-use entries::{NameEntryIter, name_entries, whole_entry};
+use entries::name_entries;
 use entry_answers::{EntryAnswer, entry_answer, entry_step_answer};
 use handles::{IndexHandle, order_of};
 use index::NameIndex;
@@ -29,7 +29,6 @@ pub extern "C" fn debug_names_name_entries(
 }
 
 // The next entry, from a cursor.
-#[tactic(auto, using(entry_answers::proofs::WholeLaws::step_whole))]
 #[unsafe(no_mangle)]
 pub extern "C" fn debug_names_next_entry(
     order: u32,
@@ -39,14 +38,10 @@ pub extern "C" fn debug_names_next_entry(
 ) -> EntryAnswer
     ensures { result ≡ next_entry_call order section.now index at }
 {
-    let endian = order_of(order);
-    let opened = NameIndex::from(index);
-    let step = NameEntryIter { at }.next_whole(endian, section, opened);
-    entry_step_answer(endian, section, opened, step)
+    entry_step_answer(order_of(order), section, NameIndex::from(index), at)
 }
 
 // The entry with a handle.
-#[tactic(auto, using(entry_answers::proofs::WholeLaws::entry_whole))]
 #[unsafe(no_mangle)]
 pub extern "C" fn debug_names_name_entry(
     order: u32,
@@ -56,8 +51,5 @@ pub extern "C" fn debug_names_name_entry(
 ) -> EntryAnswer
     ensures { result ≡ entry_answer (order_of order) section.now (index_from index) offset }
 {
-    let endian = order_of(order);
-    let opened = NameIndex::from(index);
-    let whole = whole_entry(endian, section, opened, offset);
-    entry_answer(endian, section, opened, offset, whole)
+    entry_answer(order_of(order), section, NameIndex::from(index), offset)
 }

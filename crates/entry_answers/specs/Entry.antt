@@ -8,7 +8,7 @@ use Rattle.index.specs.declared.layout.NameIndex.{NameIndex}
 use Rattle.attributes.specs.declared.attribute.EntryParent.{EntryParent}
 use Rattle.entries.specs.declared.entry.NameEntry.{NameEntry}
 use Rattle.entries.specs.declared.series.NameEntryIter.{NameEntryIter}
-use Rattle.entries.specs.Entries.{name_entry_handed}
+use Rattle.entries.specs.Entries.{name_entry}
 use Rattle.entries.specs.Series.{entry_step}
 use Rattle.entries.specs.Facts.{entry_compile_unit, entry_type_unit, entry_die_offset, entry_parent, entry_type_hash}
 use Rattle.answers.specs.declared.Answer.{Answer}
@@ -88,7 +88,7 @@ entry_answer_in facts (answered e) = shown_entry facts 0 e
 entry_answer_in facts (refused n v) = refused_entry 0 n v
 
 unfoldable pub entry_answer : RunTimeEndian → Section → NameIndex → NameEntryOffset → EntryAnswer
-entry_answer order s i offset = entry_answer_in (facts_at order s i offset) (name_entry_handed order s i offset)
+entry_answer order s i offset = entry_answer_in (facts_at order s i offset) (name_entry order s i offset)
 
 -- a step: its entry with the facts that its handle has
 abbrev pub entry_step_in : (NameEntryOffset → EntryFacts) → ℕ → Outcome (Option NameEntry) → EntryAnswer

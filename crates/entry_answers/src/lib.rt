@@ -9,17 +9,16 @@ ghost use Rattle.std.specs.Prelude.{◌≡◌};
 ghost use Rattle.reader.specs.Errors.{number_of, value_of};
 ghost use Rattle.answers.specs.Answers.{handed};
 ghost use Rattle.reader.specs.Answers.{outcome};
-ghost use Rattle.reader.specs.Steps.{step_of};
-ghost use Rattle.entries.specs.Entries.{less_whole};
-ghost use Rattle.entry_answers.specs.Entry.{compile_unit_fact, type_unit_fact, die_offset_fact, parent_fact, type_hash_fact, shown_entry, refused_entry};
-ghost use Rattle.entry_answers.specs.Inner.{facts_of, whole_answer, whole_step_answer};
+ghost use Rattle.entries.specs.Inner.{less_whole};
+ghost use Rattle.entry_answers.specs.Entry.{compile_unit_fact, type_unit_fact, die_offset_fact, parent_fact, type_hash_fact, shown_entry, refused_entry, entry_answer, entry_step_answer};
+ghost use Rattle.entry_answers.specs.Inner.{facts_of};
 
 use answers::Answer;
 use attributes::{EntryParent, Facts};
-use entries::{EntryAt, NameEntryIter, WholeEntry};
-use index::NameIndex;
+use entries::{EntryAt, NameEntryIter, whole_entry};
+use index::{NameIndex, Parts, fit};
 use names::NameTypeUnit;
-use reader::{DebugInfoOffset, Error, NameEntryOffset, RunTimeEndian, Step, UnitOffset};
+use reader::{DebugInfoOffset, Error, NameEntryOffset, RunTimeEndian, UnitOffset};
 
 // The five facts of an entry, each with kind 0 where no attribute states it.
 // (Its five answers cross to C, where `Facts` of `attributes` holds the attributes themselves.)
@@ -98,15 +97,15 @@ fn type_hash_fact(r: Result<Option<u64>, Error>) -> Answer
     })
 }
 
-// What the attributes that were kept of an entry say.
+// What the attributes that were kept of an entry say, in an index whose parts are `p`.
 // (They depend on the section and the index, so no `From`; so does what is shown of an entry, below.)
 #[tactic(auto, unfolding(crate::specs::Inner::facts_of))]
 #[inline(always)]
-fn facts_of(order: RunTimeEndian, section: &[u8], index: NameIndex, facts: Facts) -> EntryFacts
-    ensures { result ≡ facts_of order section.now index facts }
+fn facts_of(order: RunTimeEndian, section: &[u8], p: Parts, facts: Facts) -> EntryFacts
+    ensures { result ≡ facts_of order section.now p facts }
 {
-    let compile_unit = attributes::compile_unit(order, section, index, facts.compile_unit);
-    let type_unit = attributes::type_unit(order, section, index, facts.type_unit);
+    let compile_unit = attributes::compile_unit(order, section, p, facts.compile_unit);
+    let type_unit = attributes::type_unit(order, section, p, facts.type_unit);
     EntryFacts {
         compile_unit: compile_unit_fact(compile_unit),
         type_unit: type_unit_fact(type_unit),
@@ -139,16 +138,16 @@ fn refused_entry(e: Error, next: usize) -> EntryAnswer
     }
 }
 
-// An entry that was read whole, with its facts and the cursor after it.
+// An entry that was read whole, with its facts and the cursor after it, in an index whose parts are `p`.
 #[inline(always)]
 fn shown_entry(
     order: RunTimeEndian,
     section: &[u8],
-    index: NameIndex,
+    p: Parts,
     e: EntryAt,
     next: usize,
 ) -> EntryAnswer
-    ensures { result ≡ shown_entry (facts_of order section.now index e.entry.facts) next (less_whole e) }
+    ensures { result ≡ shown_entry (facts_of order section.now p e.entry.facts) next (less_whole e) }
 {
     EntryAnswer {
         status: 0,
@@ -156,43 +155,53 @@ fn shown_entry(
         value: e.offset.0 as u64,
         next,
         abbrev_code: e.entry.abbrev_code,
-        facts: facts_of(order, section, index, e.entry.facts),
+        facts: facts_of(order, section, p, e.entry.facts),
         tag: e.entry.tag as u32,
     }
 }
 
-// The entry with a handle, which was read whole.
-#[tactic(auto, unfolding(crate::specs::Inner::whole_answer))]
+// The entry with a handle (SPECIFICATION 9.4). One test that the index fits serves the entry and its facts.
+#[tactic(auto, using(crate::proofs::WholeLaws::entry_whole))]
 #[inline(always)]
 pub fn entry_answer(
     order: RunTimeEndian,
     section: &[u8],
     index: NameIndex,
     offset: NameEntryOffset,
-    r: Result<WholeEntry, Error>,
 ) -> EntryAnswer
-    ensures { result ≡ whole_answer order section.now index offset (outcome r) }
+    ensures { result ≡ entry_answer order section.now index offset }
 {
-    match r {
-        Ok(entry) => shown_entry(order, section, index, EntryAt { offset, entry }, 0),
+    let p = match fit(section, index) {
+        Ok(p) => p,
+        Err(e) => return refused_entry(e, 0),
+    };
+    match whole_entry(order, section, p, offset) {
+        Ok(entry) => shown_entry(order, section, p, EntryAt { offset, entry }, 0),
         Err(e) => refused_entry(e, 0),
     }
 }
 
-// A step over entries, with the cursor after it.
-#[tactic(auto, unfolding(crate::specs::Inner::whole_step_answer, crate::specs::Entry::no_facts))]
+// A step over entries from the cursor at a place (SPECIFICATION 9.6), with the cursor after it. That the
+// index fits is tested once, for the step and the facts of its entry; where it does not fit, the cursor
+// stays.
+#[tactic(auto, using(crate::proofs::WholeLaws::step_whole), unfolding(crate::specs::Entry::no_facts))]
 #[inline(always)]
 pub fn entry_step_answer(
     order: RunTimeEndian,
     section: &[u8],
     index: NameIndex,
-    step: Step<EntryAt, NameEntryIter>,
+    at: usize,
 ) -> EntryAnswer
-    ensures { result ≡ whole_step_answer order section.now index (step_of step.answer step.cursor) }
+    ensures { result ≡ entry_step_answer order section.now index (record { at = at }) }
 {
+    let p = match fit(section, index) {
+        Ok(p) => p,
+        Err(e) => return refused_entry(e, at),
+    };
+    let step = NameEntryIter { at }.next_whole(order, section, p);
     let next = step.cursor.at;
     match step.answer {
-        Ok(Some(e)) => shown_entry(order, section, index, e, next),
+        Ok(Some(e)) => shown_entry(order, section, p, e, next),
         Ok(None) => EntryAnswer {
             next,
             ..EntryAnswer::default()

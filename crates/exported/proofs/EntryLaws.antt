@@ -16,12 +16,13 @@ use Rattle.reader.proofs.OutcomeLaws.{refused-answered, same_answer, bind_answer
 use Rattle.reader.proofs.StepLaws.{NextBy, Next, at-end, gives_item, gives_refusal}
 use Rattle.index.specs.declared.layout.NameIndex.{NameIndex}
 use Rattle.index.specs.declared.layout.Parts.{Parts}
-use Rattle.index.specs.Layout.{parts, Fits}
+use Rattle.index.specs.Layout.{parts, Fits, fitted}
+use Rattle.index.proofs.LayoutLaws.{fitted-answered}
 use Rattle.entries.specs.declared.entry.NameEntry.{NameEntry}
 use Rattle.entries.specs.declared.series.NameEntryIter.{NameEntryIter}
-use Rattle.entries.specs.Entries.{Entry, handed as entry_handed}
-use Rattle.entries.specs.Series.{series_start, series_entry, series, cursor_at, name_entries, moved, entry_step}
-use Rattle.entries.proofs.SeriesLaws.{start-answered, step_fits, Inside, left, each}
+use Rattle.entries.specs.Entries.{Entry, as_name_entry}
+use Rattle.entries.specs.Series.{first_entry, series_entry, entries_of, series, cursor_at, name_entries, moved, entry_step}
+use Rattle.entries.proofs.SeriesLaws.{first-inside, step_fits, Inside, left, each}
 use Rattle.handles.specs.Handles.{order_of, index_from}
 use Rattle.answers.specs.declared.Answer.{Answer}
 use Rattle.answers.specs.Answers.{handed, entries_answer}
@@ -37,7 +38,7 @@ place_given first (answered c) e = ap (λ at. answered (cursor_at at)) (sym (ap 
 place_given first (refused n v) e = let kind : ◌≡◌ {A = ℕ} 1 0 = ap (λ a. a.kind) e in absurd (omega arith)
 
 -- a step that is refused is refused with a number other than 0
-refusal_numbered : (p : Parts) (o : Outcome (Option Entry)) (n v : ℕ) → Numbered o → (moved entry_handed p o).answer ≡ refused n v → eqb n 0 ≡ false
+refusal_numbered : (p : Parts) (o : Outcome (Option Entry)) (n v : ℕ) → Numbered o → (moved as_name_entry p o).answer ≡ refused n v → eqb n 0 ≡ false
 unfolding moved
 refusal_numbered p (answered None) n v here e = absurd (refused-answered (sym e))
 refusal_numbered p (answered (Some a)) n v here e = absurd (refused-answered (sym e))
@@ -69,11 +70,16 @@ module _ (order : RunTimeEndian) (s : List ℕ) (i : NameIndex) (short : length 
   entry_calls steps at has linked = calls_list told_by_entry (λ t. t.next) next_entry Within entries_left each_entry steps at has linked
 
 pub exported-entries : ExportedEntries
-unfolding name_entries series
+unfolding name_entries series entries_of
 exported-entries number s h name first steps given linked =
     let order = order_of number in
     let i = index_from h in
-    let (at, start, same) = bind_answered (series_start order s i name) _ (cursor_at first) (place_given first (name_entries order s i name) given) in
-    let (short, fits, above, below) = start-answered order s i name at start in
+    let (p, fitting, rest) = bind_answered (fitted s i) _ (cursor_at first) (place_given first (name_entries order s i name) given) in
+    let (at, start, same) = bind_answered (first_entry order s p name) _ (cursor_at first) rest in
+    let (short, fits, parts_are) = fitted-answered s i p fitting in
+    let (above, below) = first-inside order s p name at start in
     let place : first ≡ at = ap (λ c. c.at) (sym (same_answer same)) in
-    rw (start, sym place) (entry_calls order s i short fits steps first (rw place (above, below)) linked)
+    let begins = ap (λ q. q.entry_pool) parts_are in
+    let stops = ap (λ q. q.end) parts_are in
+    rw (fitting, start, sym place, parts_are)
+    (entry_calls order s i short fits steps first (omega (arith, begins, place, above), omega (arith, stops, place, below)) linked)

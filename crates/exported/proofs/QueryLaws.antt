@@ -8,7 +8,7 @@ use mathlib.Core.List.{List, [], ◌∷◌, ◌++◌, map, flat_map}
 use native.Mathlib.Omega.{arith}
 use borrow.Author.Tests.{eqb-false}
 use Rattle.std.specs.Prelude.{Ok, Option, Some, None}
-use Rattle.reader.specs.Outcome.{Outcome, answered, refused}
+use Rattle.reader.specs.Outcome.{Outcome, answered, refused, ◌>>=◌}
 use Rattle.reader.specs.Answers.{outcome}
 use Rattle.reader.specs.Steps.{Step, Linked, no_steps, step_then, has_end, up_to_end, Taken}
 use Rattle.reader.specs.declared.endianity.RunTimeEndian.{RunTimeEndian}
@@ -16,7 +16,8 @@ use Rattle.headers.specs.declared.header.NameIndexHeader.{NameIndexHeader}
 use Rattle.headers.specs.declared.headers.NameIndexHeaderIter.{NameIndexHeaderIter}
 use Rattle.headers.specs.Headers.{first_header, header_step}
 use Rattle.index.specs.declared.layout.NameIndex.{NameIndex}
-use Rattle.index.specs.Open.{name_index}
+use Rattle.index.specs.declared.layout.Parts.{Parts}
+use Rattle.index.specs.Open.{opened, name_index}
 use Rattle.index.proofs.OpenLaws.{opened_fits}
 use Rattle.tables.specs.declared.TableCheck.{TableCheck}
 use Rattle.tables.specs.Check.{table_check}
@@ -24,7 +25,7 @@ use Rattle.records.specs.declared.record.Record.{Record}
 use Rattle.query_plan.specs.Plans.{Queried}
 use Rattle.query.specs.Query.{section_query}
 use Rattle.query.proofs.RefusalLaws.{refused_records}
-use Rattle.handles.specs.Handles.{order_of, index_from, handle_of, header_for}
+use Rattle.handles.specs.Handles.{order_of, index_from, handle_of}
 use Rattle.handles.proofs.HandleLaws.{handles_describe, opens_the_same}
 use Rattle.answers.specs.declared.Answer.{Answer}
 use Rattle.answers.specs.Answers.{given, handed, open_answer, count_answer}
@@ -81,15 +82,15 @@ table_given (answered (TableCheck.Incomplete lost)) here status kind = absurd (o
 table_given (refused n v) here status kind = absurd (eqb-false n 0 here status)
 
 -- an index that opened is the header's, and that of the handle
-open_given : (o : Outcome NameIndex) → ◌≡◌ {A = Answer} (given 1 0) (handed open_answer o) → (i : NameIndex) × (o ≡ answered i)
-open_given (answered i) e = (i, refl)
+open_given : (o : Outcome Parts) → ◌≡◌ {A = Answer} (given 1 0) (handed open_answer o) → (p : Parts) × (o ≡ answered p)
+open_given (answered p) e = (p, refl)
 open_given (refused n v) e = let kind : ◌≡◌ {A = ℕ} 1 0 = ap (λ a. a.kind) e in absurd (omega arith)
 
 opens_header : (s : List ℕ) (h : NameIndexHeader) → given 1 0 ≡ open_call s (handle_of h) → answered (index_from (handle_of h)) ≡ name_index s h
 opens_header s h e =
-    let (i, opened) = open_given (name_index s (header_for (index_from (handle_of h)))) e in
-    let same : name_index s h ≡ answered i = sym (opens_the_same s h) ∙ opened in
-    let (short, fits, described) = opened_fits s h i same in
+    let (p, opens) = open_given (opened s (index_from (handle_of h))) e in
+    let same : name_index s h ≡ answered p.index = opens_the_same s h ∙ ap (λ o. o >>= λ p. answered p.index) opens in
+    let (short, fits, described) = opened_fits s h p.index same in
     ap answered (handles_describe h ∙ sym described) ∙ sym same
 
 module _ (number : ℕ) (s strs : List ℕ) (hash : ℕ) (text : List ℕ) where

@@ -9,11 +9,13 @@ use Rattle.reader.specs.Outcome.{Outcome, answered, refused}
 use Rattle.reader.specs.Listing.{answers_of}
 use Rattle.reader.specs.Steps.{ListsInOrder}
 use Rattle.reader.specs.declared.common.NameTableIndex.{NameTableIndex}
+use Rattle.headers.specs.declared.header.NameIndexHeader.{NameIndexHeader}
 use Rattle.headers.specs.Headers.{header_step}
+use Rattle.index.specs.declared.layout.NameIndex.{NameIndex}
 use Rattle.index.specs.Layout.{parts}
-use Rattle.index.specs.Open.{name_index}
+use Rattle.index.specs.Open.{opened}
 use Rattle.entries.specs.declared.entry.NameEntry.{NameEntry}
-use Rattle.entries.specs.Entries.{handed as entry_handed}
+use Rattle.entries.specs.Entries.{as_name_entry}
 use Rattle.entries.specs.Series.{series, name_entries}
 use Rattle.hashes.specs.declared.bucket.BucketName.{BucketName}
 use Rattle.hashes.specs.Table.{run, names_of_hash}
@@ -23,7 +25,7 @@ use Rattle.tables.specs.Check.{table_check}
 use Rattle.records.specs.declared.record.Record.{Record}
 use Rattle.handles.specs.declared.IndexHandle.{IndexHandle}
 use Rattle.handles.specs.declared.HashCursor.{HashCursor}
-use Rattle.handles.specs.Handles.{order_of, index_from, header_for, iter_from}
+use Rattle.handles.specs.Handles.{order_of, index_from, iter_from}
 use Rattle.answers.specs.declared.Answer.{Answer}
 use Rattle.answers.specs.Answers.{given, handed, open_answer, bucket_answer, entries_answer}
 use Rattle.step_answers.specs.declared.BucketAnswer.{BucketAnswer}
@@ -93,7 +95,7 @@ ExportedEntries =
     (order : ℕ) (s : List ℕ) (h : IndexHandle) (name : NameTableIndex) (first : ℕ) (steps : List EntryAnswer)
     → record { status = 0; kind = 1; value = first } ≡ handed entries_answer (name_entries (order_of order) s (index_from h) name)
     → LinkedCalls (next_entry_call order s h) (λ t. t.next) first steps
-    → ListsInOrder (map told_by_entry steps) (answers_of entry_handed (series (order_of order) s (index_from h) name))
+    → ListsInOrder (map told_by_entry steps) (answers_of as_name_entry (series (order_of order) s (index_from h) name))
 
 -- The third part, of `debug_names_query`. Where it is not refused: its total is the number of the entries expected; and the lent records are at
 -- exit the first of their records, as many as there is room for, and after them what was there.
@@ -114,7 +116,7 @@ abbrev pub next_header_call : ℕ → List ℕ → ℕ → HeaderAnswer
 next_header_call order s at = header_answer (header_step (order_of order) s (record { at = at }))
 
 abbrev pub open_call : List ℕ → IndexHandle → Answer
-open_call s h = handed open_answer (name_index s (header_for (index_from h)))
+open_call s h = handed open_answer (opened s (index_from h))
 
 abbrev pub check_table_call : ℕ → List ℕ → IndexHandle → TableAnswer
 check_table_call order s h = table_answer (table_check (order_of order) s (index_from h))
@@ -124,6 +126,23 @@ pub record OpensComplete (order : ℕ) (s : List ℕ) (t : HeaderAnswer) : Type 
   pub header : (t.status ≡ 0) × (t.kind ≡ 1)
   pub opens : given 1 0 ≡ open_call s t.index
   pub table : ((check_table_call order s t.index).status ≡ 0) × ((check_table_call order s t.index).kind ≤ 1)
+
+-- a header that describes an index, since an `OpenIndex` has one; what no handle tells of it is filled in
+unfoldable pub header_for : NameIndex → NameIndexHeader
+header_for i = record {
+  offset = record { 0 = 0 };
+  length = 0;
+  format = i.format;
+  version = 5;
+  compile_unit_count = i.compile_unit_count;
+  local_type_unit_count = i.local_type_unit_count;
+  foreign_type_unit_count = i.foreign_type_unit_count;
+  bucket_count = i.bucket_count;
+  name_count = i.name_count;
+  abbrev_table_size = i.abbrev_table_size;
+  augmentation_string = None;
+  content = record { at = i.begin; end = i.end };
+}
 
 -- the index that a header step tells of: its place and its handle. `expected` looks at no other field of its header.
 abbrev pub index_told : HeaderAnswer → OpenIndex

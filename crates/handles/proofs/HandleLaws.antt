@@ -5,9 +5,10 @@ use lib.ListN.{length}
 use borrow.Author.Tests.{le-ltb}
 use Rattle.reader.specs.Errors.{longest}
 use Rattle.reader.specs.declared.common.Format.{Format}
-use Rattle.index.specs.Layout.{fitted, parts, place, places_from, sizes, word_bytes, hash_bytes}
+use Rattle.index.specs.Words.{word_bytes}
+use Rattle.index.specs.Layout.{fitted, parts, place, places_from, sizes, hash_bytes}
 use Rattle.index.specs.Open.{index_of, name_index}
-use Rattle.handles.specs.Handles.{with_format, misfit, index_from, handle_of, header_for, iter_from, cursor_from}
+use Rattle.handles.specs.Handles.{with_format, misfit, index_from, handle_of, iter_from, cursor_from}
 use Rattle.handles.specs.Sanity.{OtherFormatsMisfit, HandlesDescribe, OpensTheSame, CursorsComeBack}
 use Rattle.std.specs.Prelude.{Option, Some, None}
 use Rattle.hashes.specs.declared.bucket.NameBucketIter.{NameBucketIter}
@@ -25,7 +26,7 @@ handles_describe h = by_format h.format refl
     by_format Format.Dwarf64 e = rw e refl
 
 pub opens_the_same : OpensTheSame
-unfolding name_index header_for index_of
+unfolding name_index
 opens_the_same s h = rw (handles_describe h) refl
 
 pub cursors_come_back : CursorsComeBack

@@ -61,23 +61,6 @@ handle_of h = record {
   abbrev_table_size = h.abbrev_table_size;
 }
 
--- a header that describes an index: opening looks at no other field of it (`OpensTheSame`)
-unfoldable pub header_for : NameIndex → NameIndexHeader
-header_for i = record {
-  offset = record { 0 = 0 };
-  length = 0;
-  format = i.format;
-  version = 5;
-  compile_unit_count = i.compile_unit_count;
-  local_type_unit_count = i.local_type_unit_count;
-  foreign_type_unit_count = i.foreign_type_unit_count;
-  bucket_count = i.bucket_count;
-  name_count = i.name_count;
-  abbrev_table_size = i.abbrev_table_size;
-  augmentation_string = None;
-  content = record { at = i.begin; end = i.end };
-}
-
 -- the hash cursor of a caller's numbers, and back
 unfoldable pub iter_from : HashCursor → NameHashIter
 iter_from c = cond (eqb c.has_bucket 0) (record { bucket_iter = None; hash = c.hash }) (hash_cursor c.bucket c.hash c.name.0)

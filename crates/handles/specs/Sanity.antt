@@ -1,13 +1,13 @@
 -- What a reader of the definitions may want to be sure of. The laws of proofs/HandleLaws.antt that have these types prove them.
 use Rattle.std.specs.Prelude.{ℕ, ◌≤◌, ◌≡◌, false, List, length, eqb}
-use Rattle.reader.specs.Outcome.{refused}
+use Rattle.reader.specs.Outcome.{answered, refused, ◌>>=◌}
 use Rattle.reader.specs.Errors.{longest}
 use Rattle.headers.specs.declared.header.NameIndexHeader.{NameIndexHeader}
 use Rattle.index.specs.Layout.{fitted}
-use Rattle.index.specs.Open.{index_of, name_index}
+use Rattle.index.specs.Open.{index_of, opened, name_index}
 use Rattle.hashes.specs.declared.hash.NameHashIter.{NameHashIter}
 use Rattle.handles.specs.declared.IndexHandle.{IndexHandle}
-use Rattle.handles.specs.Handles.{index_from, handle_of, header_for, iter_from, cursor_from}
+use Rattle.handles.specs.Handles.{index_from, handle_of, iter_from, cursor_from}
 
 -- a format that is neither 4 nor 8 does not fit
 abbrev pub OtherFormatsMisfit : Type 0
@@ -18,9 +18,9 @@ OtherFormatsMisfit =
 abbrev pub HandlesDescribe : Type 0
 HandlesDescribe = (h : NameIndexHeader) → index_from (handle_of h) ≡ index_of h
 
--- so opening it is opening the header's index
+-- so opening the handle is opening the index of the header, as `NameIndex::new` does
 abbrev pub OpensTheSame : Type 0
-OpensTheSame = (s : List ℕ) (h : NameIndexHeader) → name_index s (header_for (index_from (handle_of h))) ≡ name_index s h
+OpensTheSame = (s : List ℕ) (h : NameIndexHeader) → name_index s h ≡ (opened s (index_from (handle_of h)) >>= λ p. answered p.index)
 
 -- the numbers in which a hash cursor is handed over stand for that cursor
 abbrev pub CursorsComeBack : Type 0

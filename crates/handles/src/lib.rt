@@ -6,12 +6,12 @@
 #![tactic(auto)]
 
 ghost use Rattle.std.specs.Prelude.{◌≡◌};
-ghost use Rattle.handles.specs.Handles.{order_of, index_from, handle_of, header_for, iter_from, cursor_from};
+ghost use Rattle.handles.specs.Handles.{order_of, index_from, handle_of, iter_from, cursor_from};
 
 use hashes::{NameBucketIter, NameHashIter};
 use headers::NameIndexHeader;
 use index::NameIndex;
-use reader::{DebugNamesOffset, Format, NameTableIndex, Part, RunTimeEndian};
+use reader::{Format, NameTableIndex, RunTimeEndian};
 
 // An index, as a handle: where its parts begin and its pool ends, its counts, and the bytes of its words (4 or 8). The fields are in groups of
 // 16 bytes, as callers copy them: a load that takes of two such copies waits for both.
@@ -97,31 +97,6 @@ impl From<NameIndexHeader> for IndexHandle {
             name_count: header.name_count,
             abbrev_table_size: header.abbrev_table_size,
         }
-    }
-}
-
-// A header that describes an index. Opening looks at nothing else of a header.
-// (Both types are of other crates, so no `From`.)
-#[tactic(auto, unfolding(crate::specs::Handles::header_for))]
-pub fn header_for(index: NameIndex) -> NameIndexHeader
-    ensures { result ≡ header_for index }
-{
-    NameIndexHeader {
-        offset: DebugNamesOffset(0),
-        length: 0,
-        format: index.format,
-        version: 5,
-        compile_unit_count: index.compile_unit_count,
-        local_type_unit_count: index.local_type_unit_count,
-        foreign_type_unit_count: index.foreign_type_unit_count,
-        bucket_count: index.bucket_count,
-        name_count: index.name_count,
-        abbrev_table_size: index.abbrev_table_size,
-        augmentation_string: None,
-        content: Part {
-            at: index.begin,
-            end: index.end,
-        },
     }
 }
 
