@@ -1,5 +1,15 @@
--- The abbreviation table: DWARF 5, section 6.1.1.4.7; SPECIFICATION 8. The table is a part of the section,
--- from `at` up to `end`.
+-- The abbreviation table (SPECIFICATION 8; DWARF 5, 6.1.1.4.7). `s` is the section, and the table is its part
+-- from `at` up to `end`: declarations one after another, each a code (64 bits), a tag (16 bits) and pairs of
+-- name and form (16 bits each), all LEB128 numbers, up to a pair of two zeros. Where nothing is left, or at
+-- code 0, the table ends. Refused are a number with 1 or 7, tag 0 with 4, name 0 with another form with 5,
+-- and another name with form 0 with 6; both numbers of a pair are read before either is judged. Tags, names
+-- and forms that nobody knows are taken.
+-- A search by code reads declarations from the first on, each to its end before its code is compared. The
+-- first with the code is answered: code, tag, the place of its pairs and the place past it; none where the
+-- table ends first. A declaration that is refused first, the wanted one included, gives its refusal.
+-- DWARF 5 ends a table with code 0, and has each code once. Here, as in gimli, the closing 0 may be missing,
+-- the first declaration of a code counts, and a number behind the form implicit_const is read as part of the
+-- next pair. gimli keeps the declarations; here they are read again at each search.
 use Rattle.std.specs.Prelude.{ℕ, zero, suc, ◌-◌, cond, List, [], ◌∷◌, eqb, Option, Some, None, option_map}
 use Rattle.reader.specs.Outcome.{Outcome, answered, refused, ◌>>=◌, ◌>>◌}
 use Rattle.reader.specs.Parts.{Section, part_end, left_at}

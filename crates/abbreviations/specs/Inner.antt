@@ -1,4 +1,5 @@
--- What only the code needs: what single functions of it answer or leave. A reader of the other files need not know these.
+-- What only the code needs: what single functions of it answer or leave. A reader of the other files need not
+-- know these.
 use Rattle.std.specs.Prelude.{ℕ, ◌+◌, cond, eqb, Option, Some, None, option_map}
 use Rattle.reader.specs.Outcome.{Outcome, answered, refused, ◌>>=◌}
 use Rattle.reader.specs.Parts.{Section}

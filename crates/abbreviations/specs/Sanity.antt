@@ -1,5 +1,7 @@
--- What a reader of the definitions, and the crates above, may want to be sure of. The laws of proofs/AbbreviationLaws.antt that have
--- these types prove them.
+-- What a reader of the definitions, and the crates above, may want to be sure of: a declaration lies inside
+-- its part, a table is its declarations one after another and depends on the bytes of its own part alone, and
+-- what a search finds stands there and has the code (SPECIFICATION 8). The laws of
+-- proofs/AbbreviationLaws.antt that have these types prove them.
 use Rattle.std.specs.Prelude.{ℕ, ◌<◌, ◌≡◌, List, Some}
 use Rattle.std.proofs.Math.Seq.{slice}
 use Rattle.reader.specs.Outcome.{answered}

@@ -1,5 +1,5 @@
-// The abbreviation table of a name index (gimli's `NameAbbreviations`; document 01, "Abbreviations"; DWARF 5, section
-// 6.1.1.4.7): declarations one after another, each a code, a tag and pairs of name and form.
+// The abbreviation table of a name index (gimli's `NameAbbreviations`; SPECIFICATION 8; DWARF 5, 6.1.1.4.7): declarations one
+// after another, each a code, a tag and pairs of name and form.
 //
 // gimli keeps the declarations in a `Vec`; here they are read again from the bytes at each call. A table is a part of the section,
 // from a place `at` up to `end`, as everywhere in `reader`: any numbers are legal arguments.

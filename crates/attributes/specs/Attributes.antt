@@ -1,5 +1,10 @@
--- The attributes of an entry: document 01, "Entries and attributes"; DWARF 5, section 6.1.1.4.8. `s` is the section; values are read
--- from the place `at` on, in a part up to `end`.
+-- The attributes of an entry (SPECIFICATION 9.2, step 3, and 9.8; DWARF 5, 6.1.1.4.8). `s` is the section;
+-- values are read from the place `at` on, in a part that ends at `end`. For each attribute that the
+-- declaration names, in turn, the value is read in its form, and begins where the last one ended. A refusal
+-- at any attribute is the answer, whatever the attribute's name is. Of each of the five names that say
+-- something (compile unit, type unit, DIE offset, parent, type hash) the first attribute is kept, with its
+-- form and its value, also where the form is a wrong one; an attribute of any other name tells nothing.
+-- DWARF 5 has an attribute of a name once; where there are several, the first decides, as in gimli.
 use Rattle.std.specs.Prelude.{ℕ, cond, List, [], ◌∷◌, eqb, Option, Some, None}
 use Rattle.reader.specs.Outcome.{Outcome, answered, ◌>>=◌}
 use Rattle.reader.specs.declared.endianity.RunTimeEndian.{RunTimeEndian}

@@ -1,4 +1,5 @@
--- What only the code needs: what single functions of it answer or leave. A reader of the other files need not know these.
+-- What only the code needs: what single functions of it answer or leave. A reader of the other files need not
+-- know these.
 use Rattle.std.specs.Prelude.{ℕ, zero, suc, cond, [], eqb}
 use Rattle.reader.specs.Outcome.{Outcome, answered, ◌>>=◌}
 use Rattle.reader.specs.Parts.{left_at}
@@ -12,9 +13,10 @@ use Rattle.reader.specs.declared.error.Error.TheVariants.{UnexpectedEof}
 use Rattle.reader.specs.Parts.{Section}
 use Rattle.attributes.specs.Attributes.{Values, facts, value_then}
 
--- What single functions of the code answer, for any places. The values, where the pairs of name and form are read from `pairs` on as
--- they are needed: a pair that is refused gives its refusal when its turn comes. For the pairs of a declaration, which can all be
--- read, this is `values` (`values-declared`). Given as many turns as bytes are left of the pairs, it has turns enough (`turn_step`).
+-- What single functions of the code answer, for any places. The values, where the pairs of name and form are
+-- read from `pairs` on as they are needed: a pair that is refused gives its refusal when its turn comes. For
+-- the pairs of a declaration, which can all be read, this is `values` (`values-declared`). Given as many
+-- turns as bytes are left of the pairs, it has turns enough (`turn_step`).
 unfoldable pub values_in : ℕ → RunTimeEndian → Section → ℕ → ℕ → ℕ → ℕ → Outcome Values
 values_in zero order s pairs pairsEnd at end = refusal (UnexpectedEof pairs)
 values_in (suc turns) order s pairs pairsEnd at end = do

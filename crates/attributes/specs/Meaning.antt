@@ -1,5 +1,12 @@
--- What the first attribute of a name says: document 01, "Entries and attributes". A value of a wrong form is refused with 12 and the
--- form; where no attribute has the name, there is nothing to say.
+-- What the first attribute of a name says (SPECIFICATION 9.8). `s` is the section, and `p` has an index that
+-- fits, with the places of its parts. Without an attribute of the name the answer is none; of a parent it is
+-- "not known". A compile unit and a type unit are unsigned numbers k, for the unit k of the index with its
+-- refusals (SPECIFICATION 7.2 and 7.3); a DIE offset is an offset; a parent is an offset, the handle of its
+-- entry, which is not looked at, or a flag that is true, for no parent; a type hash is an unsigned number.
+-- Any other value is refused with 12 and the form, and then a k above 4,294,967,295 with 11 and k.
+-- In DWARF 5 (7.19) a parent is of class constant, the number of its entry in the name table, and a type hash
+-- has the form data8; gimli and this reader take a parent as an offset in the pool or as a flag, and a type
+-- hash in any unsigned form.
 use Rattle.std.specs.Prelude.{ℕ, cond, ltb, Option, Some, None}
 use Rattle.reader.specs.Outcome.{Outcome, answered, ◌>>=◌}
 use Rattle.reader.specs.declared.endianity.RunTimeEndian.{RunTimeEndian}

@@ -1,5 +1,6 @@
--- What a reader of the definitions, and the crates above, may want to be sure of. The laws of proofs/AttributeLaws.antt that have these
--- types prove them.
+-- What a reader of the definitions, and the crates above, may want to be sure of: how the values of an entry
+-- are read, that they stay inside their part, and when there is a first attribute of a name
+-- (SPECIFICATION 9.2 and 9.8). The laws of proofs/AttributeLaws.antt that have these types prove them.
 use Rattle.std.specs.Prelude.{ℕ, ◌≤◌, ◌≡◌, Bool, true, false, List, map, Option, Some, None}
 use Rattle.reader.specs.Outcome.{answered}
 use Rattle.reader.specs.Parts.{part_end}
@@ -10,7 +11,8 @@ use Rattle.attributes.specs.declared.attribute.FirstAttribute.{FirstAttribute}
 use Rattle.attributes.specs.Attributes.{NameAttribute, Values, values, first}
 use Rattle.attributes.specs.Inner.{values_from}
 
--- where the pairs of a declaration can all be read, reading them as they are needed is reading the values of its attributes
+-- where the pairs of a declaration can all be read, reading them as they are needed is reading the values of
+-- its attributes
 abbrev pub ValuesDeclared : Type 0
 ValuesDeclared =
     (order : RunTimeEndian) (s : List ℕ) (pairs pairsEnd : ℕ) (a : Attributes) (at end : ℕ) → attributes s pairs pairsEnd ≡ answered a

@@ -1,6 +1,6 @@
 // The five facts of an entry, as its attributes state them: one pass over the attributes that its declaration names reads every
-// value in turn, and keeps the first attribute of each of the five names by value, not resolved (document 01, "Entries and
-// attributes").
+// value in turn, and keeps the first attribute of each of the five names by value, not resolved (SPECIFICATION 9.2
+// and 9.7).
 // (s, at, end) stay parameters: with a struct of s and end, as was tried, contracts are no plainer (docs/DECISIONS.md).
 ghost use Rattle.std.specs.Prelude.{◌≡◌, List, [], ◌∷◌, ◌++◌};
 ghost use Rattle.reader.specs.Answers.{outcome};

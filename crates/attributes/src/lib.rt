@@ -1,4 +1,4 @@
-// The attributes of an entry (gimli's `NameAttribute`; document 01, "Entries and attributes"; DWARF 5, section 6.1.1.4.8): their
+// The attributes of an entry (gimli's `NameAttribute`; SPECIFICATION 9.2 and 9.8; DWARF 5, 6.1.1.4.8): their
 // values in turn, of which the first of each of the five names is kept, and what such an attribute says.
 #![tactic(auto)]
 

@@ -4,8 +4,8 @@ ghost use Rattle.names.specs.Counts.{compile_unit_count_of, local_type_unit_coun
 ghost use Rattle.handles.specs.Handles.{index_from};
 ghost use Rattle.answers.specs.Answers.{handed, count_answer, flag_answer};
 
-use answers::{Answer, count_answer, flag_answer};
-use handles::IndexHandle;
+use answers::{DebugNamesAnswer, count_answer, flag_answer};
+use handles::DebugNamesIndex;
 use index::NameIndex;
 use names::{
     bucket_count, compile_unit_count, foreign_type_unit_count, has_hash_table,
@@ -14,7 +14,10 @@ use names::{
 
 // The number of compile units.
 #[unsafe(no_mangle)]
-pub extern "C" fn debug_names_compile_unit_count(section: &[u8], index: IndexHandle) -> Answer
+pub extern "C" fn debug_names_compile_unit_count(
+    section: &[u8],
+    index: DebugNamesIndex,
+) -> DebugNamesAnswer
     ensures { result ≡ handed count_answer (compile_unit_count_of section.now (index_from index)) }
 {
     count_answer(compile_unit_count(section, NameIndex::from(index)))
@@ -22,7 +25,10 @@ pub extern "C" fn debug_names_compile_unit_count(section: &[u8], index: IndexHan
 
 // The number of local type units.
 #[unsafe(no_mangle)]
-pub extern "C" fn debug_names_local_type_unit_count(section: &[u8], index: IndexHandle) -> Answer
+pub extern "C" fn debug_names_local_type_unit_count(
+    section: &[u8],
+    index: DebugNamesIndex,
+) -> DebugNamesAnswer
     ensures { result ≡ handed count_answer (local_type_unit_count_of section.now (index_from index)) }
 {
     count_answer(local_type_unit_count(section, NameIndex::from(index)))
@@ -30,7 +36,10 @@ pub extern "C" fn debug_names_local_type_unit_count(section: &[u8], index: Index
 
 // The number of foreign type units.
 #[unsafe(no_mangle)]
-pub extern "C" fn debug_names_foreign_type_unit_count(section: &[u8], index: IndexHandle) -> Answer
+pub extern "C" fn debug_names_foreign_type_unit_count(
+    section: &[u8],
+    index: DebugNamesIndex,
+) -> DebugNamesAnswer
     ensures { result ≡ handed count_answer (foreign_type_unit_count_of section.now (index_from index)) }
 {
     count_answer(foreign_type_unit_count(section, NameIndex::from(index)))
@@ -38,7 +47,10 @@ pub extern "C" fn debug_names_foreign_type_unit_count(section: &[u8], index: Ind
 
 // The number of type units, local and foreign.
 #[unsafe(no_mangle)]
-pub extern "C" fn debug_names_type_unit_count(section: &[u8], index: IndexHandle) -> Answer
+pub extern "C" fn debug_names_type_unit_count(
+    section: &[u8],
+    index: DebugNamesIndex,
+) -> DebugNamesAnswer
     ensures { result ≡ handed count_answer (type_unit_count section.now (index_from index)) }
 {
     count_answer(type_unit_count(section, NameIndex::from(index)))
@@ -46,7 +58,10 @@ pub extern "C" fn debug_names_type_unit_count(section: &[u8], index: IndexHandle
 
 // The number of buckets.
 #[unsafe(no_mangle)]
-pub extern "C" fn debug_names_bucket_count(section: &[u8], index: IndexHandle) -> Answer
+pub extern "C" fn debug_names_bucket_count(
+    section: &[u8],
+    index: DebugNamesIndex,
+) -> DebugNamesAnswer
     ensures { result ≡ handed count_answer (bucket_count_of section.now (index_from index)) }
 {
     count_answer(bucket_count(section, NameIndex::from(index)))
@@ -54,7 +69,7 @@ pub extern "C" fn debug_names_bucket_count(section: &[u8], index: IndexHandle) -
 
 // The number of names.
 #[unsafe(no_mangle)]
-pub extern "C" fn debug_names_name_count(section: &[u8], index: IndexHandle) -> Answer
+pub extern "C" fn debug_names_name_count(section: &[u8], index: DebugNamesIndex) -> DebugNamesAnswer
     ensures { result ≡ handed count_answer (name_count_of section.now (index_from index)) }
 {
     count_answer(name_count(section, NameIndex::from(index)))
@@ -62,7 +77,10 @@ pub extern "C" fn debug_names_name_count(section: &[u8], index: IndexHandle) -> 
 
 // Whether the index has a hash table.
 #[unsafe(no_mangle)]
-pub extern "C" fn debug_names_has_hash_table(section: &[u8], index: IndexHandle) -> Answer
+pub extern "C" fn debug_names_has_hash_table(
+    section: &[u8],
+    index: DebugNamesIndex,
+) -> DebugNamesAnswer
     ensures { result ≡ handed flag_answer (has_hash_table section.now (index_from index)) }
 {
     flag_answer(has_hash_table(section, NameIndex::from(index)))

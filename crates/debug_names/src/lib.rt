@@ -1,4 +1,4 @@
-// The library for C, C++ and Rust, `libdebug_names.a`: the calls of document 01 as functions of numbers, lent bytes and lent records.
+// The library for C, C++ and Rust, `libdebug_names.a`: the calls of SPECIFICATION 15.5 as functions of numbers, lent bytes and lent records.
 // include/debug_names.h declares them and says what each answers.
 //
 // Each function is thin: what a caller's numbers stand for, the call of the crate below, and its answer in a struct; its contract says what it

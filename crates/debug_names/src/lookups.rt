@@ -1,4 +1,4 @@
-// The hash table: lookups by bucket and by hash, their steps, and the table check (document 01, "Buckets and hashes").
+// The hash table: lookups by bucket and by hash, their steps, and the table check (SPECIFICATION 10 and 11).
 // (order, section, index) stay parameters, which C hands over one by one.
 ghost use Rattle.std.specs.Prelude.{◌≡◌};
 ghost use Rattle.hashes.specs.Lookups.{find_by_bucket, find_by_hash};
@@ -7,14 +7,14 @@ ghost use Rattle.answers.specs.Answers.{handed, bucket_answer};
 ghost use Rattle.step_answers.specs.Steps.{hash_answer};
 ghost use Rattle.exported.specs.Demand3.{next_in_bucket_call, next_by_hash_call, check_table_call};
 
-use answers::{Answer, bucket_answer};
-use handles::{HashCursor, IndexHandle, order_of};
+use answers::{DebugNamesAnswer, bucket_answer};
+use handles::{DebugNamesHashCursor, DebugNamesIndex, order_of};
 use hashes::{NameBucketIter, NameHashIter, find_by_bucket, find_by_hash};
 use index::NameIndex;
 use reader::NameTableIndex;
 use step_answers::{
-    BucketAnswer, HashAnswer, TableAnswer, bucket_step_answer, hash_answer, hash_step_answer,
-    table_answer,
+    DebugNamesBucketStep, DebugNamesHashStep, DebugNamesTable, bucket_step_answer, hash_answer,
+    hash_step_answer, table_answer,
 };
 use tables::check_table;
 
@@ -23,9 +23,9 @@ use tables::check_table;
 pub extern "C" fn debug_names_find_by_bucket(
     order: u32,
     section: &[u8],
-    index: IndexHandle,
+    index: DebugNamesIndex,
     bucket: u32,
-) -> Answer
+) -> DebugNamesAnswer
     ensures { result ≡ handed bucket_answer (find_by_bucket (order_of order) section.now (index_from index) bucket) }
 {
     bucket_answer(find_by_bucket(order_of(order), section, NameIndex::from(index), bucket))
@@ -36,10 +36,10 @@ pub extern "C" fn debug_names_find_by_bucket(
 pub extern "C" fn debug_names_next_in_bucket(
     order: u32,
     section: &[u8],
-    index: IndexHandle,
+    index: DebugNamesIndex,
     bucket: u32,
     name: NameTableIndex,
-) -> BucketAnswer
+) -> DebugNamesBucketStep
     ensures { result ≡ next_in_bucket_call order section.now index bucket name }
 {
     let cursor = NameBucketIter {
@@ -54,9 +54,9 @@ pub extern "C" fn debug_names_next_in_bucket(
 pub extern "C" fn debug_names_find_by_hash(
     order: u32,
     section: &[u8],
-    index: IndexHandle,
+    index: DebugNamesIndex,
     hash: u32,
-) -> HashAnswer
+) -> DebugNamesHashStep
     ensures { result ≡ hash_answer (find_by_hash (order_of order) section.now (index_from index) hash) }
 {
     hash_answer(find_by_hash(order_of(order), section, NameIndex::from(index), hash))
@@ -67,9 +67,9 @@ pub extern "C" fn debug_names_find_by_hash(
 pub extern "C" fn debug_names_next_by_hash(
     order: u32,
     section: &[u8],
-    index: IndexHandle,
-    cursor: HashCursor,
-) -> HashAnswer
+    index: DebugNamesIndex,
+    cursor: DebugNamesHashCursor,
+) -> DebugNamesHashStep
     ensures { result ≡ next_by_hash_call order section.now index cursor }
 {
     let names = NameHashIter::from(cursor);
@@ -85,8 +85,8 @@ pub extern "C" fn debug_names_next_by_hash(
 pub extern "C" fn debug_names_check_table(
     order: u32,
     section: &[u8],
-    index: IndexHandle,
-) -> TableAnswer
+    index: DebugNamesIndex,
+) -> DebugNamesTable
     ensures { result ≡ check_table_call order section.now index }
 {
     table_answer(check_table(order_of(order), section, NameIndex::from(index)))

@@ -1,4 +1,4 @@
-// The entries of a name, and an entry by its handle, each with its five facts (document 01, "Entries and attributes"). One pass over an
+// The entries of a name, and an entry by its handle, each with its five facts (SPECIFICATION 9). One pass over an
 // entry tells all of them.
 // (order, section, index) stay parameters, which C hands over one by one.
 ghost use Rattle.std.specs.Prelude.{◌≡◌};
@@ -8,10 +8,10 @@ ghost use Rattle.answers.specs.Answers.{handed, entries_answer};
 ghost use Rattle.entry_answers.specs.Entry.{entry_answer};
 ghost use Rattle.exported.specs.Demand3.{next_entry_call};
 
-use answers::{Answer, entries_answer};
+use answers::{DebugNamesAnswer, entries_answer};
 use entries::name_entries;
-use entry_answers::{EntryAnswer, entry_answer, entry_step_answer};
-use handles::{IndexHandle, order_of};
+use entry_answers::{DebugNamesEntry, entry_answer, entry_step_answer};
+use handles::{DebugNamesIndex, order_of};
 use index::NameIndex;
 use reader::{NameEntryOffset, NameTableIndex};
 
@@ -20,9 +20,9 @@ use reader::{NameEntryOffset, NameTableIndex};
 pub extern "C" fn debug_names_name_entries(
     order: u32,
     section: &[u8],
-    index: IndexHandle,
+    index: DebugNamesIndex,
     name: NameTableIndex,
-) -> Answer
+) -> DebugNamesAnswer
     ensures { result ≡ handed entries_answer (name_entries (order_of order) section.now (index_from index) name) }
 {
     entries_answer(name_entries(order_of(order), section, NameIndex::from(index), name))
@@ -33,9 +33,9 @@ pub extern "C" fn debug_names_name_entries(
 pub extern "C" fn debug_names_next_entry(
     order: u32,
     section: &[u8],
-    index: IndexHandle,
+    index: DebugNamesIndex,
     at: usize,
-) -> EntryAnswer
+) -> DebugNamesEntry
     ensures { result ≡ next_entry_call order section.now index at }
 {
     entry_step_answer(order_of(order), section, NameIndex::from(index), at)
@@ -46,9 +46,9 @@ pub extern "C" fn debug_names_next_entry(
 pub extern "C" fn debug_names_name_entry(
     order: u32,
     section: &[u8],
-    index: IndexHandle,
+    index: DebugNamesIndex,
     offset: NameEntryOffset,
-) -> EntryAnswer
+) -> DebugNamesEntry
     ensures { result ≡ entry_answer (order_of order) section.now (index_from index) offset }
 {
     entry_answer(order_of(order), section, NameIndex::from(index), offset)

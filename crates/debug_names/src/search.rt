@@ -1,11 +1,11 @@
-// The section query (document 01, "The section query"): where the function or type of a name is described. The records are lent, and a
+// The section query (SPECIFICATION 12): where the function or type of a name is described. The records are lent, and a
 // refused query leaves them as they are.
 // (order, section, strings, hash, name) stay parameters, which C hands over one by one.
 ghost use Rattle.std.specs.Prelude.{◌≡◌};
 ghost use Rattle.handles.specs.Handles.{order_of};
 ghost use Rattle.exported.specs.Query.{query_answer};
 
-use answers::{Answer, total_answer};
+use answers::{DebugNamesAnswer, total_answer};
 use handles::order_of;
 use query::query;
 use records::Record;
@@ -20,7 +20,7 @@ pub extern "C" fn debug_names_query(
     hash: u32,
     name: &[u8],
     records: &mut [Record],
-) -> Answer
+) -> DebugNamesAnswer
     ensures { record { answer = result; records = records.new } ≡ query_answer (order_of order) section.now strings.now hash name.now records.old }
 {
     total_answer(query(order_of(order), section, strings, hash, name, records))

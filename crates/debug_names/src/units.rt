@@ -1,4 +1,4 @@
-// The units of an index, by number (document 01, "Headers and layout").
+// The units of an index, by number (SPECIFICATION 7.2 to 7.4).
 // Each is an exported function of its own, since C knows no generic one.
 // (order, section, index) stay parameters, which C hands over one by one.
 ghost use Rattle.std.specs.Prelude.{◌≡◌};
@@ -6,8 +6,10 @@ ghost use Rattle.names.specs.Units.{nth_compile_unit, local_type_unit, foreign_t
 ghost use Rattle.handles.specs.Handles.{order_of, index_from};
 ghost use Rattle.answers.specs.Answers.{handed, unit_answer, signature_answer, type_unit_answer, default_unit_answer};
 
-use answers::{Answer, default_unit_answer, signature_answer, type_unit_answer, unit_answer};
-use handles::{IndexHandle, order_of};
+use answers::{
+    DebugNamesAnswer, default_unit_answer, signature_answer, type_unit_answer, unit_answer,
+};
+use handles::{DebugNamesIndex, order_of};
 use index::NameIndex;
 use names::{compile_unit, default_compile_unit, foreign_type_unit, local_type_unit, type_unit};
 
@@ -16,9 +18,9 @@ use names::{compile_unit, default_compile_unit, foreign_type_unit, local_type_un
 pub extern "C" fn debug_names_compile_unit(
     order: u32,
     section: &[u8],
-    index: IndexHandle,
+    index: DebugNamesIndex,
     number: u32,
-) -> Answer
+) -> DebugNamesAnswer
     ensures { result ≡ handed (unit_answer 1) (nth_compile_unit (order_of order) section.now (index_from index) number) }
 {
     unit_answer(
@@ -32,9 +34,9 @@ pub extern "C" fn debug_names_compile_unit(
 pub extern "C" fn debug_names_local_type_unit(
     order: u32,
     section: &[u8],
-    index: IndexHandle,
+    index: DebugNamesIndex,
     number: u32,
-) -> Answer
+) -> DebugNamesAnswer
     ensures { result ≡ handed (unit_answer 2) (local_type_unit (order_of order) section.now (index_from index) number) }
 {
     unit_answer(
@@ -48,9 +50,9 @@ pub extern "C" fn debug_names_local_type_unit(
 pub extern "C" fn debug_names_foreign_type_unit(
     order: u32,
     section: &[u8],
-    index: IndexHandle,
+    index: DebugNamesIndex,
     number: u32,
-) -> Answer
+) -> DebugNamesAnswer
     ensures { result ≡ handed signature_answer (foreign_type_unit (order_of order) section.now (index_from index) number) }
 {
     signature_answer(foreign_type_unit(order_of(order), section, NameIndex::from(index), number))
@@ -61,9 +63,9 @@ pub extern "C" fn debug_names_foreign_type_unit(
 pub extern "C" fn debug_names_type_unit(
     order: u32,
     section: &[u8],
-    index: IndexHandle,
+    index: DebugNamesIndex,
     number: u32,
-) -> Answer
+) -> DebugNamesAnswer
     ensures { result ≡ handed type_unit_answer (nth_type_unit (order_of order) section.now (index_from index) number) }
 {
     type_unit_answer(type_unit(order_of(order), section, NameIndex::from(index), number))
@@ -74,8 +76,8 @@ pub extern "C" fn debug_names_type_unit(
 pub extern "C" fn debug_names_default_compile_unit(
     order: u32,
     section: &[u8],
-    index: IndexHandle,
-) -> Answer
+    index: DebugNamesIndex,
+) -> DebugNamesAnswer
     ensures { result ≡ handed default_unit_answer (default_compile_unit (order_of order) section.now (index_from index)) }
 {
     default_unit_answer(default_compile_unit(order_of(order), section, NameIndex::from(index)))

@@ -1,14 +1,14 @@
--- Document 01, demand 3, whole. The law `demand3` of proofs/QueryLaws.antt proves it.
---
--- For every list of steps of one bucket, hash or entry lookup, refused ones included, each given the cursor that the lookup or the step
--- before it gave, the answers up to the first end are the beginning, in order and without a gap, of the bucket's run, of its names storing the
--- hash, or of the name's series. The first end is the first step before which all of that is answered. An index with a hash table is reported
--- complete exactly when, for every 32-bit hash, the names listed up to the first end are all names storing that hash, ascending, each once,
--- without refusal. For every section whose indexes all open and are complete or have no hash table, a section query not refused has as its
--- total the number of all entries in the series of all matching names, each once for each name. It writes the first of them that its records
--- hold, in the order of index, name and series, and nothing else.
---
--- Completeness of the query's list concerns records with document 02's choice of the unit (No. 5): `expected` has them.
+-- Demand 3, whole: nothing is left off a list (SPECIFICATION 14.3 to 14.6). The law `demand3` of
+-- proofs/QueryLaws.antt proves it.
+-- For every list of steps of one bucket, hash or entry lookup, refused ones included, each given the cursor
+-- that the lookup or the step before it gave, the answers up to the first end are the beginning, in order and
+-- without a gap, of the bucket's run, of its names storing the hash, or of the name's series. The first end
+-- is the first step before which all of that is answered. An index with a hash table is reported complete
+-- exactly when, for every 32-bit hash, the names listed up to the first end are all names storing that hash,
+-- ascending, each once, without refusal. For every section whose indexes all open and are complete or have no
+-- hash table, a section query not refused has as its total the number of all entries in the series of all
+-- matching names, each once for each name. It writes the first of their records (SPECIFICATION 12.5 and
+-- 12.6), as many as there is room for, in the order of index, name and series, and nothing else.
 use Rattle.std.specs.Prelude.{ℕ, ◌≡◌, true, ◌⊎◌, List, [], ◌∷◌, ◌++◌, map, length, take, drop, Ok}
 use Rattle.std.specs.Prelude.{Option, Some}
 use Rattle.reader.specs.Outcome.{Outcome, answered}
@@ -37,8 +37,8 @@ pub data Each {A : Type 0} (claim : A → Type 0) : List A → Type 0 where
   of_none : Each claim []
   and_then : {a : A} {rest : List A} → claim a → Each claim rest → Each claim (a ∷ rest)
 
--- The indexes all open, and these are they: linked header steps of the code from place 0 reach the end, and up to it answer their headers,
--- without refusal; and `NameIndex::new` takes each header.
+-- The indexes all open, and these are they: linked header steps of the code from place 0 reach the end, and
+-- up to it answer their headers, without refusal; and `NameIndex::new` takes each header.
 abbrev pub AllOpen : RunTimeEndian → List ℕ → List OpenIndex → Type 0
 AllOpen order s opened =
     ((steps : List (Taken NameIndexHeader NameIndexHeaderIter))
@@ -51,8 +51,9 @@ AllOpen order s opened =
 abbrev pub CompleteOrNoTable : RunTimeEndian → List ℕ → OpenIndex → Type 0
 CompleteOrNoTable order s o = (outcome (Ok TableCheck.Complete) ≡ table_check order s o.index) ⊎ (outcome (Ok TableCheck.NoTable) ≡ table_check order s o.index)
 
--- The third part. Of a query that is not refused: its total is the number of the entries expected; and the lent records are at exit the first
--- of their records, as many as there is room for, and after them what was there.
+-- The third part. Of a query that is not refused: its total is the number of the entries expected; and the
+-- lent records are at exit the first of their records, as many as there is room for, and after them what was
+-- there.
 abbrev pub QueryFinds : Type 0
 QueryFinds =
     (order : RunTimeEndian) (s strs : List ℕ) (hash : ℕ) (text : List ℕ) (lent after : List Record) (total : ℕ) (opened : List OpenIndex)

@@ -1,9 +1,11 @@
--- What a query has to find: SPECIFICATION 14.6. None of the query's own search is used: of a hash table only
--- the hash that is stored for a name is looked at. `s` is .debug_names and `strs` is .debug_str; `text` has
--- the bytes of the name that is asked for.
---
--- What is shown of an entry is its record (`record_of_entry`), with the unit that `entry_unit` of `records` chooses: where an entry has both a
--- type_unit and a compile_unit attribute, the type unit (SPECIFICATION 12.6).
+-- What a query has to find, without any search (SPECIFICATION 14.6). Of a hash table only the hash that is
+-- stored for a name is looked at. `s` is .debug_names and `strs` is .debug_str; `hash` is the hash and `text`
+-- has the bytes of the name that is asked for. A name of an index matches here if its string equals these
+-- bytes (one that cannot be read equals nothing) and, where the index has a hash table, the hash stored for
+-- it is the hash. All names are tried. Expected are the entries in the series of all names that match, an
+-- entry once for each name, in the order of index, name and series.
+-- What is shown of an entry is its record (SPECIFICATION 12.5), with the unit of SPECIFICATION 12.6: where an
+-- entry has both a type_unit and a compile_unit attribute, the type unit.
 use Rattle.std.specs.Prelude.{ℕ, Bool, true, false, cond, eqb}
 use mathlib.Core.List.{List, map, flat_map}
 use Rattle.reader.specs.Outcome.{Outcome, answered, refused}

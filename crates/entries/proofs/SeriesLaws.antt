@@ -32,7 +32,7 @@ use Rattle.entries.specs.Sanity.{pool_length, SeriesUnfold, SeriesShort, Handles
 use Rattle.entries.specs.Demand3.{EntryLookups}
 use Rattle.entries.specs.declared.entry.EntryAt.{EntryAt}
 use Rattle.entries.specs.Entries.{Entry, entry, entry_at_handle, name_entry, as_name_entry}
-use Rattle.entries.specs.Inner.{told, whole_of, less_whole, entry_read, series_read, whole_entry, whole_step}
+use Rattle.entries.specs.Inner.{as_entry_at, whole_of, less_whole, entry_read, series_read, whole_entry, whole_step}
 use Rattle.entries.specs.Series.{first_entry, series_entry, entries_from, entries_of, series, cursor_at, name_entries, moved, step_in, entry_step}
 use Rattle.entries.proofs.EntryLaws.{entry-offset, entries_forward, pool_end}
 
@@ -131,7 +131,7 @@ pub whole_moved : (order : RunTimeEndian) (s : List ℕ) (p : Parts) (c : NameEn
 unfolding whole_step step_in moved moved_by series_read
 whole_moved order s p c = rw (by_entry (series_entry order s p c.at) refl)
   where
-    by_entry : (o : Outcome (Option Entry)) → series_entry order s p c.at ≡ o → moved told p o ≡ moved_by p c.at (o >>= λ e. answered (whole_of e))
+    by_entry : (o : Outcome (Option Entry)) → series_entry order s p c.at ≡ o → moved as_entry_at p o ≡ moved_by p c.at (o >>= λ e. answered (whole_of e))
     by_entry (answered None) read = refl
     by_entry (answered (Some e)) read = rw (series-offset order s p c.at e read)
     by_entry (refused n v) read = refl
@@ -150,7 +150,7 @@ pub entry_moved : (order : RunTimeEndian) (s : List ℕ) (i : NameIndex) (c : Na
 unfolding entry_step whole_step step_in moved
 entry_moved order s i c = ap (keeping c) (bind_same (fitted s i) _ _ λ p fits. ap answered (by_tests p (ltb c.at p.entry_pool) (ltb p.end c.at)))
   where
-    by_entry : (p : Parts) (o : Outcome (Option Entry)) → moved as_name_entry p o ≡ less (moved told p o)
+    by_entry : (p : Parts) (o : Outcome (Option Entry)) → moved as_name_entry p o ≡ less (moved as_entry_at p o)
     by_entry p (answered None) = refl
     by_entry p (answered (Some e)) = refl
     by_entry p (refused n v) = refl
@@ -163,7 +163,7 @@ entry_moved order s i c = ap (keeping c) (bind_same (fitted s i) _ _ λ p fits. 
         ≡ less (keeping c (do
           refuse_if t 14 0
           refuse_if u 14 0
-          answered (moved told p (series_entry order s p c.at))))
+          answered (moved as_entry_at p (series_entry order s p c.at))))
     by_tests p true u = refl
     by_tests p false true = refl
     by_tests p false false = by_entry p (series_entry order s p c.at)
@@ -221,7 +221,7 @@ handles_lead order s i c e gave =
 pub handles_tell : HandlesTell
 unfolding whole_step whole_entry
 handles_tell order s p c t gave =
-    let (f, there, this) = shown_lead told order s p c t gave in
+    let (f, there, this) = shown_lead as_entry_at order s p c t gave in
     rw (sym this, there) refl
 
 -- the step of a cursor that fits

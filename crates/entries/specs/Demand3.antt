@@ -1,5 +1,5 @@
--- Document 01, demand 3, for entry lookups: one theorem about lists of steps of any length. The law `entry-lookups` of
--- proofs/SeriesLaws.antt proves it.
+-- Demand 3, that nothing is left off a list, for entry lookups: one theorem about lists of steps of any
+-- length (SPECIFICATION 14.4). The law `entry-lookups` of proofs/SeriesLaws.antt proves it.
 use Rattle.std.specs.Prelude.{ℕ, ◌≡◌, List, Ok}
 use Rattle.reader.specs.Listing.{answers_of}
 use Rattle.reader.specs.Steps.{Linked, ListsInOrder, answers, Taken}
@@ -12,10 +12,11 @@ use Rattle.entries.specs.Series.{series, name_entries, entry_step}
 use Rattle.reader.specs.Answers.{outcome}
 use Rattle.entries.specs.declared.entry.NameEntry.{NameEntry}
 
--- If `name_entries` gave the cursor c for a name, then whatever list of steps follows, each given the cursor that `name_entries` or the
--- step before it gave: their answers up to the first end are the beginning of the name's series, in order and without a gap, an entry
--- with its handle, its code and its tag, a refusal with its number and value; and the first end is the first step before which all of
--- the series is answered (`ListsInOrder`).
+-- If `name_entries` gave the cursor c for a name, then whatever list of steps follows, each given the cursor
+-- that `name_entries` or the step before it gave: their answers up to the first end are the beginning of the
+-- name's series, in order and without a gap, an entry with its handle, its code and its tag, a refusal with
+-- its number and value; and the first end is the first step before which all of the series is answered
+-- (`ListsInOrder`).
 abbrev pub EntryLookups : Type 0
 EntryLookups =
     (order : RunTimeEndian) (s : List ℕ) (i : NameIndex) (name : NameTableIndex) (c : NameEntryIter) (steps : List (Taken NameEntry NameEntryIter))

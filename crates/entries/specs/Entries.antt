@@ -1,5 +1,15 @@
--- Entries of the pool: document 01, "Entries and attributes"; DWARF 5, section 6.1.1.4.8. `s` is the section, and `p` tells where the
--- parts of the index lie.
+-- Entries of the pool (SPECIFICATION 9.1, 9.2 and 9.4; DWARF 5, 6.1.1.4.8). `s` is the section, `i` the
+-- index, and `p` tells where its parts lie. The handle of an entry is its place less the pool's start. At a
+-- place of the pool there stands a code, a LEB128 number of 64 bits; code 0 is no entry. The declaration of
+-- the code in the index's table is read next: a refusal of the table is the entry's, and where no declaration
+-- has the code, it is 8 with the code. The values of its attributes follow. An entry is answered by its
+-- handle, its code and its tag.
+-- `name_entry`: 13 and 14 are tested first; then a skip of so many bytes from the pool's start. A handle
+-- above the pool's length is refused with 1 at the pool's start, the pool's length itself with 1 at the
+-- pool's end, and a handle at which code 0 stands with 10 and the handle; else it is the entry there, or its
+-- refusal.
+-- As in gimli, any offset inside the pool is read as the beginning of an entry, also where none begins.
+-- gimli's entry holds its attributes; here they are read again from the handle.
 use Rattle.std.specs.Prelude.{ℕ, ◌-◌, cond, List, eqb}
 use Rattle.std.specs.Prelude.{Option, Some, None}
 use Rattle.reader.specs.declared.error.Error.{Error}
@@ -18,8 +28,8 @@ use Rattle.attributes.specs.Attributes.{NameAttribute, values}
 use Rattle.entries.specs.declared.entry.NameEntry.{NameEntry}
 use Rattle.reader.specs.Parts.{Section}
 
--- an entry: its handle, which is its offset in the pool, its abbreviation code, its tag, its attributes in order, each with name, form
--- and value, and the place after them
+-- an entry: its handle, which is its offset in the pool, its abbreviation code, its tag, its attributes in
+-- order, each with name, form and value, and the place after them
 pub record Entry : Type 0 where
   pub offset : ℕ
   pub code : ℕ
@@ -41,7 +51,8 @@ as_name_entry e = record { offset = record { 0 = e.offset }; abbrev_code = e.cod
 
 -- a section, in its byte order
 module _ (order : RunTimeEndian) (s : Section) where
-  -- the entry at a place of the pool, none at code 0: its code's declaration, 8 where there is none, says which attributes follow
+  -- the entry at a place of the pool, none at code 0: its code's declaration, 8 where there is none, says
+  -- which attributes follow
   unfoldable pub entry : Parts → ℕ → Outcome (Option Entry)
   entry p at = do
     code ← leb128 unsigned_limit s at p.end

@@ -1,5 +1,10 @@
--- The five facts of an entry: document 01, "Entries and attributes". Each is refused as the entry is, and then the first attribute of the
--- name decides. `s` is the section.
+-- The five facts of an entry, each asked for by the entry's handle (SPECIFICATION 9.8). `s` is the section
+-- and `i` the index. First the whole entry is read, and the fact is refused as `name_entry` is. Then the
+-- first attribute with the fact's name decides, and no later one, even where its form is a wrong one; what it
+-- says is defined in Meaning of `attributes`. Without such an attribute the answer is none, of a parent "not
+-- known".
+-- gimli's entry was read before its facts are asked for, so that there a fact cannot be refused as the entry
+-- is.
 use Rattle.std.specs.Prelude.{ℕ, Option}
 use Rattle.reader.specs.Outcome.{Outcome, ◌>>=◌}
 use Rattle.reader.specs.declared.endianity.RunTimeEndian.{RunTimeEndian}

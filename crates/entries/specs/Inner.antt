@@ -1,4 +1,5 @@
--- What only the code needs: what single functions of it answer or leave. A reader of the other files need not know these.
+-- What only the code needs: what single functions of it answer or leave. A reader of the other files need not
+-- know these.
 use Rattle.std.specs.Prelude.{ℕ}
 use Rattle.std.specs.Prelude.{Option, Some, None}
 use Rattle.reader.specs.Outcome.{Outcome, answered, ◌>>=◌}
@@ -20,8 +21,8 @@ abbrev pub whole : Entry → WholeEntry
 whole e = record { abbrev_code = e.code; tag = e.tag; facts = facts e.attributes; next = e.next }
 
 -- the same with its handle
-abbrev pub told : Entry → EntryAt
-told e = record { offset = record { 0 = e.offset }; entry = whole e }
+abbrev pub as_entry_at : Entry → EntryAt
+as_entry_at e = record { offset = record { 0 = e.offset }; entry = whole e }
 
 abbrev pub whole_of : Option Entry → Option WholeEntry
 whole_of None = None
@@ -51,4 +52,4 @@ module _ (order : RunTimeEndian) (s : Section) where
 
   -- the step over a series that shows its entries so
   unfoldable pub whole_step : Parts → NameEntryIter → Step EntryAt NameEntryIter
-  whole_step p c = step_in order s told p c
+  whole_step p c = step_in order s as_entry_at p c

@@ -1,4 +1,6 @@
--- What a reader of the definitions, and the crates above, may want to be sure of. The laws of proofs/ that have these types prove them.
+-- What a reader of the definitions, and the crates above, may want to be sure of: an entry lies inside the
+-- pool, a series has no more entries than the pool has bytes, and the handle of an entry leads to that entry
+-- (SPECIFICATION 9). The laws of proofs/ that have these types prove them.
 use Rattle.std.specs.Prelude.{ℕ, ◌-◌, ◌≤◌, ◌<◌, ◌≡◌, List}
 use Rattle.std.specs.Prelude.{Some}
 use Rattle.reader.specs.Outcome.{answered}

@@ -1,4 +1,15 @@
--- The series of a name, and the steps over it: document 01, "Entries and attributes" and the words of demand 3. `s` is the section.
+-- The series of a name, and the steps over it (SPECIFICATION 9.5 to 9.7; DWARF 5, 6.1.1.4.8). `s` is the
+-- section, `i` the index, and `p` tells where its parts lie. The series begins at the name's entry offset,
+-- counted from the pool's start, and is the entries from there on, each where the one before it ended, up to
+-- the pool's end, a code 0, or an entry that is refused. `name_entries` of name k answers the cursor before
+-- the first of them, a place: 13 and 14; where k is the number of names, 1 at the end of the list of entry
+-- offsets; where it is larger, 1 at that list's start; where the entry offset is above the pool's length, 1
+-- at the pool's start.
+-- The step, `NameEntryIter::next`: 13; 14 of the index; 14 where the cursor lies before the pool or behind
+-- its end. Then it answers the entry at the cursor, and the cursor is past it; or the end, at the pool's end
+-- or at a code 0, or the entry's refusal, and the cursor is at the pool's end. `next_whole` tells of an entry
+-- the first attribute of each of the five names, too.
+-- In DWARF 5 a series ends with code 0; here, as in gimli, it may also end with the pool.
 use Rattle.std.specs.Prelude.{ℕ, ◌-◌, cond, ltb, eqb}
 use Rattle.std.specs.Prelude.{Option, Some, None}
 use Rattle.reader.specs.Outcome.{Outcome, answered, refused, ◌>>=◌, ◌>>◌}
@@ -22,8 +33,8 @@ use Rattle.reader.specs.Parts.{Section}
 abbrev pub cursor_at : ℕ → NameEntryIter
 cursor_at place = record { at = place }
 
--- what a step answers: an entry, of which `shown` is shown, with the cursor past it; after an end or a refusal the cursor is at the pool's
--- end
+-- what a step answers: an entry, of which `shown` is shown, with the cursor past it; after an end or a
+-- refusal the cursor is at the pool's end
 unfoldable pub moved : {A : Type 0} → (Entry → A) → Parts → Outcome (Option Entry) → Step A NameEntryIter
 moved shown p (answered (Some e)) = record { answer = answered (Some (shown e)); cursor = cursor_at e.next }
 moved shown p (answered None) = record { answer = answered None; cursor = cursor_at p.end }
@@ -31,7 +42,8 @@ moved shown p (refused n v) = record { answer = refused n v; cursor = cursor_at 
 
 -- a section, in its byte order
 module _ (order : RunTimeEndian) (s : Section) where
-  -- In an index whose parts are `p`: the place of a name's first entry. The entry offset that is stored for the name counts from the pool's start.
+  -- In an index whose parts are `p`: the place of a name's first entry. The entry offset that is stored for
+  -- the name counts from the pool's start.
   unfoldable pub first_entry : Parts → NameTableIndex → Outcome ℕ
   first_entry p name = do
     offset ← nth_word p.index.format order s p.entry_offset_data p.abbreviation_table name.0
@@ -41,11 +53,13 @@ module _ (order : RunTimeEndian) (s : Section) where
   unfoldable pub series_entry : Parts → ℕ → Outcome (Option Entry)
   series_entry p at = cond (eqb (left_at s at p.end) 0) (answered None) (entry order s p at)
 
-  -- the entries from a place on, each beginning where the last ended, up to the series' end or the first refused entry
+  -- the entries from a place on, each beginning where the last ended, up to the series' end or the first
+  -- refused entry
   unfoldable pub entries_from : Parts → ℕ → Listing Entry
   entries_from p at = listing (series_entry p) (λ e. e.next) (part_end s p.end - at) at
 
-  -- The entries of a name: those from its first on. Where there is no such place in the pool, the list is broken off at once, with that refusal.
+  -- The entries of a name: those from its first on. Where there is no such place in the pool, the list is
+  -- broken off at once, with that refusal.
   unfoldable pub entries_of : Parts → NameTableIndex → Listing Entry
   entries_of p name = or_broken (first_entry p name) (entries_from p)
 

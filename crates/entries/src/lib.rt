@@ -1,4 +1,4 @@
-// The entry pool of a name index (gimli's `NameEntryIter` and `NameEntry`; document 01, "Entries and attributes"; DWARF 5, section
+// The entry pool of a name index (gimli's `NameEntryIter` and `NameEntry`; SPECIFICATION 9; DWARF 5,
 // 6.1.1.4.8): single entries, the series of a name, and the five facts of an entry.
 //
 // gimli's methods are functions here, given the section and the index: 13 and 14 are tested first, in this order.

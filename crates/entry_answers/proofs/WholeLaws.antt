@@ -19,25 +19,25 @@ use Rattle.entries.specs.Inner.{less_whole, whole_entry, whole_step}
 use Rattle.entries.proofs.EntryLaws.{name_entry_read}
 use Rattle.entries.proofs.SeriesLaws.{less_of, less, entry_moved, handles_tell}
 use Rattle.entries.proofs.FactLaws.{compile_unit_step, type_unit_step, die_offset_step, parent_step, type_hash_step}
-use Rattle.entry_answers.specs.declared.EntryAnswer.{EntryAnswer}
+use Rattle.entry_answers.specs.declared.DebugNamesEntry.{DebugNamesEntry}
 use Rattle.entry_answers.specs.Entry.{facts_at, shown_entry, ended_series, refused_entry, entry_answer_in, entry_answer, entry_step_in, entry_step_answer}
 use Rattle.entry_answers.specs.Inner.{facts_of}
 
 -- what is handed over of an answer, or a refused entry, with the cursor after it
-abbrev pub or_refused : {A : Type 0} → ℕ → Outcome A → (A → EntryAnswer) → EntryAnswer
+abbrev pub or_refused : {A : Type 0} → ℕ → Outcome A → (A → DebugNamesEntry) → DebugNamesEntry
 or_refused next (answered a) shown = shown a
 or_refused next (refused n v) shown = refused_entry next n v
 
 -- what is handed over of an entry that was read whole, of a series' entry or its end, and of a step
 module _ (order : RunTimeEndian) (s : List ℕ) (p : Parts) where
-  abbrev pub whole_shown : ℕ → EntryAt → EntryAnswer
+  abbrev pub whole_shown : ℕ → EntryAt → DebugNamesEntry
   whole_shown next e = shown_entry (facts_of order s p e.entry.facts) next (less_whole e)
 
-  abbrev pub shown_or_end : ℕ → Option EntryAt → EntryAnswer
+  abbrev pub shown_or_end : ℕ → Option EntryAt → DebugNamesEntry
   shown_or_end next (Some e) = whole_shown next e
   shown_or_end next None = ended_series next
 
-  abbrev pub step_shown : Step EntryAt NameEntryIter → EntryAnswer
+  abbrev pub step_shown : Step EntryAt NameEntryIter → DebugNamesEntry
   step_shown t = or_refused t.cursor.at t.answer (shown_or_end t.cursor.at)
 
 module _ (order : RunTimeEndian) (s : List ℕ) (i : NameIndex) where
@@ -81,7 +81,7 @@ module _ (order : RunTimeEndian) (s : List ℕ) (i : NameIndex) where
   unfolding entry_step_answer
   step_whole c = rw (entry_moved order s i c) (by_index (fitted s i) refl)
     where
-      handed_over : Step NameEntry NameEntryIter → EntryAnswer
+      handed_over : Step NameEntry NameEntryIter → DebugNamesEntry
       handed_over t = entry_step_in (facts_at order s i) t.cursor.at t.answer
 
       by_answer : (p : Parts) (o : Outcome (Option EntryAt)) (next : ℕ) → fitted s i ≡ answered p → (whole_step order s p c).answer ≡ o

@@ -24,16 +24,16 @@ use Rattle.entries.specs.Entries.{Entry, as_name_entry}
 use Rattle.entries.specs.Series.{first_entry, series_entry, entries_of, series, cursor_at, name_entries, moved, entry_step}
 use Rattle.entries.proofs.SeriesLaws.{first-inside, step_fits, Inside, left, each}
 use Rattle.handles.specs.Handles.{order_of, index_from}
-use Rattle.answers.specs.declared.Answer.{Answer}
+use Rattle.answers.specs.declared.DebugNamesAnswer.{DebugNamesAnswer}
 use Rattle.answers.specs.Answers.{handed, entries_answer}
-use Rattle.entry_answers.specs.declared.EntryAnswer.{EntryAnswer}
+use Rattle.entry_answers.specs.declared.DebugNamesEntry.{DebugNamesEntry}
 use Rattle.entry_answers.specs.Entry.{entry_step_answer, refused_entry}
 use Rattle.exported.specs.Demand3.{LinkedCalls, told_by_entry, ExportedEntries}
 use Rattle.exported.proofs.CallLaws.{calls_list}
 use Rattle.exported.proofs.NumberedLaws.{Numbered, series_numbered}
 
 -- a lookup that gave a place had a cursor there
-place_given : (first : ℕ) (o : Outcome NameEntryIter) → ◌≡◌ {A = Answer} (record { status = 0; kind = 1; value = first }) (handed entries_answer o) → o ≡ answered (cursor_at first)
+place_given : (first : ℕ) (o : Outcome NameEntryIter) → ◌≡◌ {A = DebugNamesAnswer} (record { status = 0; kind = 1; value = first }) (handed entries_answer o) → o ≡ answered (cursor_at first)
 place_given first (answered c) e = ap (λ at. answered (cursor_at at)) (sym (ap (λ a. a.value) e))
 place_given first (refused n v) e = let kind : ◌≡◌ {A = ℕ} 1 0 = ap (λ a. a.kind) e in absurd (omega arith)
 
@@ -45,7 +45,7 @@ refusal_numbered p (answered (Some a)) n v here e = absurd (refused-answered (sy
 refusal_numbered p (refused m w) n v here e = let same : m ≡ n = cc in rw (sym same) here
 
 module _ (order : RunTimeEndian) (s : List ℕ) (i : NameIndex) (short : length s ≤ longest) (fits : Fits s i) where
-  abbrev next_entry : ℕ → EntryAnswer
+  abbrev next_entry : ℕ → DebugNamesEntry
   next_entry at = entry_step_answer order s i (cursor_at at)
 
   abbrev Within : ℕ → Type 0
@@ -66,7 +66,7 @@ module _ (order : RunTimeEndian) (s : List ℕ) (i : NameIndex) (short : length 
           (ap (λ t. t.answer) (sym (step_fits order s i at short fits above below)) ∙ answer) in
           gives_refusal n v (rw answer rest) (rw (answer, other) refl) (rw answer ready)
 
-  entry_calls : (steps : List EntryAnswer) (at : ℕ) → Within at → LinkedCalls next_entry (λ t. t.next) at steps → ListsInOrder (map told_by_entry steps) (entries_left at)
+  entry_calls : (steps : List DebugNamesEntry) (at : ℕ) → Within at → LinkedCalls next_entry (λ t. t.next) at steps → ListsInOrder (map told_by_entry steps) (entries_left at)
   entry_calls steps at has linked = calls_list told_by_entry (λ t. t.next) next_entry Within entries_left each_entry steps at has linked
 
 pub exported-entries : ExportedEntries

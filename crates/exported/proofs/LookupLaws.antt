@@ -23,26 +23,26 @@ use Rattle.hashes.specs.Table.{stored_hash, stored_start, bucket_of, run, names_
 use Rattle.hashes.specs.Lookups.{bucket_cursor, find_by_bucket, find_by_hash, hashed, next_in_bucket, bucket_moved, bucket_step, hash_step}
 use Rattle.hashes.specs.Demand3.{bucket_names, hash_names}
 use Rattle.hashes.proofs.LookupLaws.{HasBucket, bucket_left, each-name, HasHeld, held_left, hash_left, each-storing, find-answered, run-started, hash-answered, held_started}
-use Rattle.handles.specs.declared.HashCursor.{HashCursor}
+use Rattle.handles.specs.declared.DebugNamesHashCursor.{DebugNamesHashCursor}
 use Rattle.handles.specs.Handles.{order_of, index_from, iter_from}
 use Rattle.handles.proofs.HandleLaws.{cursors_come_back}
-use Rattle.answers.specs.declared.Answer.{Answer}
+use Rattle.answers.specs.declared.DebugNamesAnswer.{DebugNamesAnswer}
 use Rattle.answers.specs.Answers.{handed, bucket_answer}
-use Rattle.step_answers.specs.declared.BucketAnswer.{BucketAnswer}
-use Rattle.step_answers.specs.declared.HashAnswer.{HashAnswer}
+use Rattle.step_answers.specs.declared.DebugNamesBucketStep.{DebugNamesBucketStep}
+use Rattle.step_answers.specs.declared.DebugNamesHashStep.{DebugNamesHashStep}
 use Rattle.step_answers.specs.Steps.{bucket_step_answer, hash_answer, hash_step_answer}
 use Rattle.exported.specs.Demand3.{LinkedCalls, told_by_bucket, told_by_hash, ExportedBuckets, ExportedHashes}
 use Rattle.exported.proofs.CallLaws.{calls_list, never_refused}
 
 -- a lookup that gave a name had a cursor before it
-name_given : (first : ℕ) (o : Outcome (Option NameBucketIter)) → ◌≡◌ {A = Answer} (record { status = 0; kind = 1; value = first }) (handed bucket_answer o)
+name_given : (first : ℕ) (o : Outcome (Option NameBucketIter)) → ◌≡◌ {A = DebugNamesAnswer} (record { status = 0; kind = 1; value = first }) (handed bucket_answer o)
     → (c : NameBucketIter) × (o ≡ answered (Some c)) × (c.name_table_index.0 ≡ first)
 name_given first (answered (Some c)) e = (c, refl, sym (ap (λ a. a.value) e))
 name_given first (answered None) e = let kind : ◌≡◌ {A = ℕ} 1 0 = ap (λ a. a.kind) e in absurd (omega arith)
 name_given first (refused n v) e = let kind : ◌≡◌ {A = ℕ} 1 0 = ap (λ a. a.kind) e in absurd (omega arith)
 
 -- a lookup that gave a cursor's numbers had that cursor
-cursor_given : (first : HashCursor) (o : Outcome NameHashIter) → ◌≡◌ {A = HashAnswer} (record { status = 0; kind = 1; value = 0; next = first }) (hash_answer o) → o ≡ answered (iter_from first)
+cursor_given : (first : DebugNamesHashCursor) (o : Outcome NameHashIter) → ◌≡◌ {A = DebugNamesHashStep} (record { status = 0; kind = 1; value = 0; next = first }) (hash_answer o) → o ≡ answered (iter_from first)
 cursor_given first (answered c) e = ap answered (sym (ap iter_from (ap (λ a. a.next) e) ∙ cursors_come_back c))
 cursor_given first (refused n v) e = let kind : ◌≡◌ {A = ℕ} 1 0 = ap (λ a. a.kind) e in absurd (omega arith)
 
@@ -67,7 +67,7 @@ module _ (order : RunTimeEndian) (s : List ℕ) (i : NameIndex) (short : length 
     abbrev at_name : NameTableIndex → NameBucketIter
     at_name name = bucket_cursor bucket name.0
 
-    abbrev next_name : NameTableIndex → BucketAnswer
+    abbrev next_name : NameTableIndex → DebugNamesBucketStep
     next_name name = bucket_step_answer (bucket_step order s i (at_name name))
 
     -- any name is a good cursor
@@ -91,20 +91,20 @@ module _ (order : RunTimeEndian) (s : List ℕ) (i : NameIndex) (short : length 
             gives_item a (rw answer (left ∙ ap (λ l. answered (Some a) ∷ l) (same_left (at_name name) (bucket_step order s i (at_name name)).cursor (bucket_kept order s i (at_name name))))) (rw answer refl) tt
         by_next (gives_refusal n v left answer ready) = absurd (never_refused (λ n. Some (hashed order s (parts i) n)) _ n v _ left)
 
-    bucket_calls : (steps : List BucketAnswer) (name : NameTableIndex) → LinkedCalls next_name (λ t. t.next) name steps → ListsInOrder (map told_by_bucket steps) (names_left name)
+    bucket_calls : (steps : List DebugNamesBucketStep) (name : NameTableIndex) → LinkedCalls next_name (λ t. t.next) name steps → ListsInOrder (map told_by_bucket steps) (names_left name)
     bucket_calls steps name linked = calls_list told_by_bucket (λ t. t.next) next_name Any names_left each_told steps name tt linked
 
   -- the steps of a hash: a caller's cursor has the numbers of the code's
-  abbrev next_storing_name : HashCursor → HashAnswer
+  abbrev next_storing_name : DebugNamesHashCursor → DebugNamesHashStep
   next_storing_name c = hash_step_answer c (hash_step order s i (iter_from c))
 
-  abbrev Holds : HashCursor → Type 0
+  abbrev Holds : DebugNamesHashCursor → Type 0
   Holds c = HasHeld order s i short fits (iter_from c)
 
-  abbrev storing_left : HashCursor → List (Outcome (Option NameTableIndex))
+  abbrev storing_left : DebugNamesHashCursor → List (Outcome (Option NameTableIndex))
   storing_left c = hash_left order s i short fits (iter_from c)
 
-  each_found : (c : HashCursor) → Holds c → NextBy told_by_hash (λ t. t.next) next_storing_name Holds storing_left c
+  each_found : (c : DebugNamesHashCursor) → Holds c → NextBy told_by_hash (λ t. t.next) next_storing_name Holds storing_left c
   unfolding hash_names
   each_found c has = by_next (each-storing order s i short fits (iter_from c).hash (iter_from c).bucket_iter has)
     where
@@ -114,7 +114,7 @@ module _ (order : RunTimeEndian) (s : List ℕ) (i : NameIndex) (short : length 
           gives_item a (rw (answer, cursors_come_back (hash_step order s i (iter_from c)).cursor) left) (rw answer refl) (rw (answer, cursors_come_back (hash_step order s i (iter_from c)).cursor) ready)
       by_next (gives_refusal n v left answer ready) = absurd (never_refused (λ n. Some (record { 0 = n })) _ n v _ left)
 
-  hash_calls : (steps : List HashAnswer) (c : HashCursor) → Holds c → LinkedCalls next_storing_name (λ t. t.next) c steps → ListsInOrder (map told_by_hash steps) (storing_left c)
+  hash_calls : (steps : List DebugNamesHashStep) (c : DebugNamesHashCursor) → Holds c → LinkedCalls next_storing_name (λ t. t.next) c steps → ListsInOrder (map told_by_hash steps) (storing_left c)
   hash_calls steps c has linked = calls_list told_by_hash (λ t. t.next) next_storing_name Holds storing_left each_found steps c has linked
 
 pub exported-buckets : ExportedBuckets

@@ -27,9 +27,9 @@ use Rattle.query.specs.Query.{section_query}
 use Rattle.query.proofs.RefusalLaws.{refused_records}
 use Rattle.handles.specs.Handles.{order_of, index_from, handle_of}
 use Rattle.handles.proofs.HandleLaws.{handles_describe, opens_the_same}
-use Rattle.answers.specs.declared.Answer.{Answer}
+use Rattle.answers.specs.declared.DebugNamesAnswer.{DebugNamesAnswer}
 use Rattle.answers.specs.Answers.{given, handed, open_answer, count_answer}
-use Rattle.step_answers.specs.declared.HeaderAnswer.{HeaderAnswer}
+use Rattle.step_answers.specs.declared.DebugNamesHeaderStep.{DebugNamesHeaderStep}
 use Rattle.step_answers.specs.Steps.{header_answer, table_answer}
 use Rattle.demand3.specs.Expected.{OpenIndex, records_of_name, records_of_index, expected}
 use Rattle.demand3.specs.Demand3.{header_answers, Each, of_none, and_then, CompleteOrNoTable}
@@ -50,7 +50,7 @@ refused_unchanged order hash s strs text lent after t is other =
     by_answer (refused n v) e same = refused_records (order_of order) s strs hash text lent n v e
 
 -- a query that gave a total was answered it
-total_given : (total : ℕ) (o : Outcome ℕ) → ◌≡◌ {A = Answer} (record { status = 0; kind = 1; value = total }) (handed count_answer o) → answered total ≡ o
+total_given : (total : ℕ) (o : Outcome ℕ) → ◌≡◌ {A = DebugNamesAnswer} (record { status = 0; kind = 1; value = total }) (handed count_answer o) → answered total ≡ o
 total_given total (answered n) e = ap answered (ap (λ a. a.value) e)
 total_given total (refused n v) e = let kind : ◌≡◌ {A = ℕ} 1 0 = ap (λ a. a.kind) e in absurd (omega arith)
 
@@ -62,13 +62,13 @@ exported_query_finds order s strs hash text lent after total opened opens checks
     ∙ ap {B = Queried} (λ (l : List Record). record { answer = (section_query (order_of order) s strs hash text lent).answer; records = l }) (ap (λ q. q.records) given))
 
 -- a struct of a header step that gave a header, and one at the end
-header_given : (o : Outcome (Option NameIndexHeader)) (next : ℕ) (t : HeaderAnswer) → t ≡ header_answer (record { answer = o; cursor = record { at = next } }) → t.kind ≡ 1
+header_given : (o : Outcome (Option NameIndexHeader)) (next : ℕ) (t : DebugNamesHeaderStep) → t ≡ header_answer (record { answer = o; cursor = record { at = next } }) → t.kind ≡ 1
     → (h : NameIndexHeader) × (o ≡ answered (Some h)) × (t.value ≡ h.offset.0) × (t.index ≡ handle_of h) × (t.next ≡ next)
 header_given (answered (Some h)) next t is one = (h, refl, ap (λ t. t.value) is, ap (λ t. t.index) is, ap (λ t. t.next) is)
 header_given (answered None) next t is one = let kind : t.kind ≡ 0 = ap (λ t. t.kind) is in absurd (omega arith)
 header_given (refused n v) next t is one = let kind : t.kind ≡ 0 = ap (λ t. t.kind) is in absurd (omega arith)
 
-end_given : (o : Outcome (Option NameIndexHeader)) (next : ℕ) (t : HeaderAnswer) → Numbered o → t ≡ header_answer (record { answer = o; cursor = record { at = next } }) → t.status ≡ 0 → t.kind ≡ 0
+end_given : (o : Outcome (Option NameIndexHeader)) (next : ℕ) (t : DebugNamesHeaderStep) → Numbered o → t ≡ header_answer (record { answer = o; cursor = record { at = next } }) → t.status ≡ 0 → t.kind ≡ 0
     → o ≡ answered None
 end_given (answered (Some h)) next t here is status none = let kind : t.kind ≡ 1 = ap (λ t. t.kind) is in absurd (omega arith)
 end_given (answered None) next t here is status none = refl
@@ -82,7 +82,7 @@ table_given (answered (TableCheck.Incomplete lost)) here status kind = absurd (o
 table_given (refused n v) here status kind = absurd (eqb-false n 0 here status)
 
 -- an index that opened is the header's, and that of the handle
-open_given : (o : Outcome Parts) → ◌≡◌ {A = Answer} (given 1 0) (handed open_answer o) → (p : Parts) × (o ≡ answered p)
+open_given : (o : Outcome Parts) → ◌≡◌ {A = DebugNamesAnswer} (given 1 0) (handed open_answer o) → (p : Parts) × (o ≡ answered p)
 open_given (answered p) e = (p, refl)
 open_given (refused n v) e = let kind : ◌≡◌ {A = ℕ} 1 0 = ap (λ a. a.kind) e in absurd (omega arith)
 
@@ -106,7 +106,7 @@ module _ (number : ℕ) (s strs : List ℕ) (hash : ℕ) (text : List ℕ) where
   same_records i h k e = rw e refl
 
   -- steps of the code from a place on that reach the end, and the opened indexes, of which the same is expected as of what the structs tell
-  record Opened (at : ℕ) (headers : List HeaderAnswer) : Type 0 where
+  record Opened (at : ℕ) (headers : List DebugNamesHeaderStep) : Type 0 where
     opened : List OpenIndex
     steps : List (Taken NameIndexHeader NameIndexHeaderIter)
     linked : Linked (header_step order s) (record { at = at }) steps
@@ -116,7 +116,7 @@ module _ (number : ℕ) (s strs : List ℕ) (hash : ℕ) (text : List ℕ) where
     checks : Each (CompleteOrNoTable order s) opened
     same : found_in (map index_told headers) ≡ found_in opened
 
-  opened_from : (headers : List HeaderAnswer) (end : HeaderAnswer) (at : ℕ) → LinkedCalls (next_header_call number s) (λ t. t.next) at (headers ++ end ∷ []) → Each (OpensComplete number s) headers
+  opened_from : (headers : List DebugNamesHeaderStep) (end : DebugNamesHeaderStep) (at : ℕ) → LinkedCalls (next_header_call number s) (λ t. t.next) at (headers ++ end ∷ []) → Each (OpensComplete number s) headers
       → end.status ≡ 0 → end.kind ≡ 0 → Opened at headers
   unfolding has_end up_to_end expected flat_map
   opened_from [] end at (call_then is no_calls) of_none status kind =

@@ -1,15 +1,17 @@
--- The section query, as it is handed over: document 01, "The section query". `s` is .debug_names and `strs` is .debug_str;
--- `name` has the bytes of the name that is asked for.
+-- The section query, as it is handed over: `debug_names_query` (SPECIFICATION 12, 15.3 and 15.5). `s` is
+-- .debug_names and `strs` is .debug_str; `hash` is the hash and `name` has the bytes of the name that is
+-- asked for; `lent` are the records that the query may write. The answer has kind 1 and the total as its
+-- value, or the refusal's number as status and its value; the lent records are as the query leaves them.
 use Rattle.std.specs.Prelude.{ℕ, List}
 use Rattle.reader.specs.declared.endianity.RunTimeEndian.{RunTimeEndian}
 use Rattle.records.specs.declared.record.Record.{Record}
 use Rattle.query.specs.Query.{section_query}
-use Rattle.answers.specs.declared.Answer.{Answer}
+use Rattle.answers.specs.declared.DebugNamesAnswer.{DebugNamesAnswer}
 use Rattle.answers.specs.Answers.{handed, count_answer}
 
 -- the answer, and the lent records as they are left
 pub record QueryHanded : Type 0 where
-  pub answer : Answer
+  pub answer : DebugNamesAnswer
   pub records : List Record
 
 -- the total, and the records of the query

@@ -1,5 +1,12 @@
--- The twelve forms that an attribute of an entry may have: document 01, "Entries and attributes"; DWARF 5, section 7.5. `s` is the
--- section, and the value is read at the place `at` of its part up to `end`.
+-- The twelve forms that an attribute of an entry may have (SPECIFICATION 9.3; DWARF 5, 7.5). `s` is the
+-- section; the value is read at the place `at` of its part, which ends at `end`, and numbers of a fixed width
+-- in the byte order `order`. A flag is one byte, false where that is 0, else true; a flag_present has no byte
+-- and is true. data1, data2, data4, data8 and udata are unsigned numbers, and ref1, ref2, ref4, ref8 and
+-- ref_udata are offsets, of 1, 2, 4 and 8 bytes and as a LEB128 number of 64 bits. Where too few bytes are
+-- left, it is 1 at the value's place, or at the missing byte of a LEB128 number, which may also be refused
+-- with 7. Every other form is refused with 9 and the form.
+-- DWARF 5 allows any form of the attribute's class (7.5.5, 7.19); gimli and this reader read these twelve
+-- alone.
 use Rattle.std.specs.Prelude.{ℕ, true, cond, not, eqb}
 use Rattle.reader.specs.Outcome.{Outcome, answered, ◌>>=◌}
 use Rattle.reader.specs.Numbers.{read_byte, read_number}
@@ -27,8 +34,8 @@ as_offset read = do
   n ← read
   answered (record { value = NameAttributeValue.Offset n.value; next = n.next })
 
--- the form's code selects the reading: flag, flag_present; data1, data2, data4, data8, udata; ref1, ref2, ref4, ref8, ref_udata;
--- any other is 9
+-- the form's code selects the reading: flag, flag_present; data1, data2, data4, data8, udata; ref1, ref2,
+-- ref4, ref8, ref_udata; any other is 9
 unfoldable pub form_value : ℕ → RunTimeEndian → Section → ℕ → ℕ → Outcome (Read NameAttributeValue)
 form_value form order s at end =
     cond (eqb form 0x0c) (as_flag (read_byte s at end))

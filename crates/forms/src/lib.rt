@@ -1,5 +1,5 @@
-// The value of an attribute of an entry (gimli's `NameAttributeValue` and `read_debug_names_form_value`; document 01, "Entries and
-// attributes"; DWARF 5, section 7.5): twelve forms, each read at a place of a part as the readings of `reader` are.
+// The value of an attribute of an entry (gimli's `NameAttributeValue` and `read_debug_names_form_value`; SPECIFICATION 9.3;
+// DWARF 5, 7.5): twelve forms, each read at a place of a part as the readings of `reader` are.
 // (s, at, end) stay parameters: with a struct of s and end, as was tried, contracts are no plainer (docs/DECISIONS.md).
 #![tactic(auto)]
 

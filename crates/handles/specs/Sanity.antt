@@ -1,4 +1,6 @@
--- What a reader of the definitions may want to be sure of. The laws of proofs/HandleLaws.antt that have these types prove them.
+-- What a reader of the definitions may want to be sure of: which handles do not fit, and that what was handed
+-- over stands for what it was made from (SPECIFICATION 15.2). The laws of proofs/HandleLaws.antt that have
+-- these types prove them.
 use Rattle.std.specs.Prelude.{ℕ, ◌≤◌, ◌≡◌, false, List, length, eqb}
 use Rattle.reader.specs.Outcome.{answered, refused, ◌>>=◌}
 use Rattle.reader.specs.Errors.{longest}
@@ -6,13 +8,13 @@ use Rattle.headers.specs.declared.header.NameIndexHeader.{NameIndexHeader}
 use Rattle.index.specs.Layout.{fitted}
 use Rattle.index.specs.Open.{index_of, opened, name_index}
 use Rattle.hashes.specs.declared.hash.NameHashIter.{NameHashIter}
-use Rattle.handles.specs.declared.IndexHandle.{IndexHandle}
+use Rattle.handles.specs.declared.DebugNamesIndex.{DebugNamesIndex}
 use Rattle.handles.specs.Handles.{index_from, handle_of, iter_from, cursor_from}
 
 -- a format that is neither 4 nor 8 does not fit
 abbrev pub OtherFormatsMisfit : Type 0
 OtherFormatsMisfit =
-    (s : List ℕ) (h : IndexHandle) → length s ≤ longest → eqb h.format 4 ≡ false → eqb h.format 8 ≡ false → fitted s (index_from h) ≡ refused 14 0
+    (s : List ℕ) (h : DebugNamesIndex) → length s ≤ longest → eqb h.format 4 ≡ false → eqb h.format 8 ≡ false → fitted s (index_from h) ≡ refused 14 0
 
 -- the handle that a header step gives stands for the index that the header describes
 abbrev pub HandlesDescribe : Type 0

@@ -17,7 +17,7 @@ use reader::{Format, NameTableIndex, RunTimeEndian};
 // 16 bytes, as callers copy them: a load that takes of two such copies waits for both.
 #[repr(C)]
 #[derive(Clone, Copy, Default)]
-pub struct IndexHandle {
+pub struct DebugNamesIndex {
     pub begin: usize,
     pub end: usize,
     pub compile_unit_count: u32,
@@ -32,7 +32,7 @@ pub struct IndexHandle {
 // A hash cursor: the hash, whether it holds a bucket cursor (0 is no), the bucket, and the name to examine next. It crosses to C, which has no `Option`.
 #[repr(C)]
 #[derive(Clone, Copy, Default)]
-pub struct HashCursor {
+pub struct DebugNamesHashCursor {
     pub hash: u32,
     pub has_bucket: u32,
     pub bucket: u32,
@@ -50,12 +50,12 @@ pub fn order_of(order: u32) -> RunTimeEndian
     RunTimeEndian::Big
 }
 
-impl From<IndexHandle> for NameIndex {
+impl From<DebugNamesIndex> for NameIndex {
     ghost from_gives = { λ h index. index ≡ index_from h };
 
     // The index that a handle stands for: in a format that is none, one that ends before it begins, and so fits no section.
     #[tactic(auto, unfolding(crate::specs::Handles::index_from, crate::specs::Handles::with_format, crate::specs::Handles::misfit))]
-    fn from(h: IndexHandle) -> NameIndex {
+    fn from(h: DebugNamesIndex) -> NameIndex {
         let format = match h.format {
             4 => Format::Dwarf32,
             8 => Format::Dwarf64,
@@ -80,13 +80,13 @@ impl From<IndexHandle> for NameIndex {
     }
 }
 
-impl From<NameIndexHeader> for IndexHandle {
+impl From<NameIndexHeader> for DebugNamesIndex {
     ghost from_gives = { λ header h. h ≡ handle_of header };
 
     // The handle of the index that a header describes.
     #[tactic(auto, unfolding(crate::specs::Handles::handle_of))]
-    fn from(header: NameIndexHeader) -> IndexHandle {
-        IndexHandle {
+    fn from(header: NameIndexHeader) -> DebugNamesIndex {
+        DebugNamesIndex {
             begin: header.content.at,
             end: header.content.end,
             format: header.format.word_size() as u32,
@@ -100,12 +100,12 @@ impl From<NameIndexHeader> for IndexHandle {
     }
 }
 
-impl From<HashCursor> for NameHashIter {
+impl From<DebugNamesHashCursor> for NameHashIter {
     ghost from_gives = { λ c iter. iter ≡ iter_from c };
 
     // The hash cursor that a caller's numbers stand for.
     #[tactic(auto, unfolding(crate::specs::Handles::iter_from))]
-    fn from(c: HashCursor) -> NameHashIter {
+    fn from(c: DebugNamesHashCursor) -> NameHashIter {
         if c.has_bucket == 0 {
             return NameHashIter {
                 bucket_iter: None,
@@ -122,22 +122,22 @@ impl From<HashCursor> for NameHashIter {
     }
 }
 
-impl From<NameHashIter> for HashCursor {
+impl From<NameHashIter> for DebugNamesHashCursor {
     ghost from_gives = { λ iter c. c ≡ cursor_from iter };
 
     // The numbers of a hash cursor.
     #[tactic(auto, unfolding(crate::specs::Handles::cursor_from, crate::specs::Handles::no_cursor))]
-    fn from(iter: NameHashIter) -> HashCursor {
+    fn from(iter: NameHashIter) -> DebugNamesHashCursor {
         match iter.bucket_iter {
-            Some(b) => HashCursor {
+            Some(b) => DebugNamesHashCursor {
                 hash: iter.hash,
                 has_bucket: 1,
                 bucket: b.bucket_index,
                 name: b.name_table_index,
             },
-            None => HashCursor {
+            None => DebugNamesHashCursor {
                 hash: iter.hash,
-                ..HashCursor::default()
+                ..DebugNamesHashCursor::default()
             },
         }
     }

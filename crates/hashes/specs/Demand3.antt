@@ -1,5 +1,6 @@
--- Document 01, demand 3, for bucket and hash lookups: each one theorem about lists of steps of any length. The laws `bucket-lookups` and
--- `hash-lookups` of proofs/LookupLaws.antt prove them.
+-- Demand 3, that nothing is left off a list, for bucket and hash lookups: each one theorem about lists of
+-- steps of any length (SPECIFICATION 14.4). The laws `bucket-lookups` and `hash-lookups` of
+-- proofs/LookupLaws.antt prove them.
 use Rattle.std.specs.Prelude.{ℕ, ◌≡◌, List, map, Ok}
 use Rattle.std.specs.Prelude.{Option, Some}
 use Rattle.reader.specs.Outcome.{Outcome, answered}
@@ -30,9 +31,10 @@ bucket_names order s p = map λ n. answered (Some (hashed order s p n))
 unfoldable pub hash_names : List ℕ → List (Outcome (Option NameTableIndex))
 hash_names = map λ n. answered (Some (record { 0 = n }))
 
--- If `find_by_bucket` gave the cursor c for a bucket, then whatever list of steps follows, each given the cursor that `find_by_bucket` or
--- the step before it gave: their answers up to the first end are the beginning of the bucket's run, in order and without a gap; and the
--- first end is the first step before which all of the run is answered (`ListsInOrder`).
+-- If `find_by_bucket` gave the cursor c for a bucket, then whatever list of steps follows, each given the
+-- cursor that `find_by_bucket` or the step before it gave: their answers up to the first end are the
+-- beginning of the bucket's run, in order and without a gap; and the first end is the first step before which
+-- all of the run is answered (`ListsInOrder`).
 abbrev pub BucketLookups : Type 0
 BucketLookups =
     (order : RunTimeEndian) (s : List ℕ) (i : NameIndex) (bucket : ℕ) (c : NameBucketIter) (steps : List (Taken BucketName NameBucketIter))

@@ -1,4 +1,15 @@
--- The lookups of a hash table, and their steps: document 01, "Buckets and hashes". `s` is the section.
+-- The lookups of a hash table, and their steps (SPECIFICATION 10.3 to 10.6; DWARF 5, 6.1.1.4.5). `s` is the
+-- section, `i` the index, with N names and B buckets, and `p` tells where its parts lie. Each call tests 13
+-- and 14 first. `find_by_bucket` answers the cursor before the bucket's first name, or none if its start
+-- is 0. Refused with 1 are bucket B, at the end of the starts; a larger one, where they begin; and a start
+-- above N + 1, where the hashes begin. `find_by_hash` is this lookup of the hash's bucket; its cursor holds
+-- no bucket cursor if the bucket is empty.
+-- A step is refused with 14 if the cursor's bucket is not below B. Over a bucket it answers the cursor's name
+-- and its hash, if that belongs to the bucket, else the end. Over a hash it goes on to the first name that
+-- stores the hash, which it answers, or to the first of another bucket, where it answers the end. The cursor
+-- is then past that name. Where no name is left, or without a bucket cursor, it answers the end.
+-- Without buckets DWARF 5 searches all names; gimli and this reader refuse the lookup with 1. Both take a
+-- start of N + 1; in both a step after the first end, where a list is over, may answer again.
 use Rattle.std.specs.Prelude.{ℕ, ◌+◌, ◌-◌, ◌*◌, cond, List, [], ◌∷◌, length, leb, eqb, Option, Some, None, option_map}
 use Rattle.reader.specs.Outcome.{Outcome, answered, ◌>>=◌, ◌>>◌}
 use Rattle.reader.specs.Parts.{skipped}
@@ -30,7 +41,8 @@ abbrev pub cursor_before : ℕ → Option ℕ → Option NameBucketIter
 cursor_before bucket None = None
 cursor_before bucket (Some name) = Some (bucket_cursor bucket name)
 
--- a search that ended at a name, the number after it next; and one that ended without a name, at the number given
+-- a search that ended at a name, the number after it next; and one that ended without a name, at the number
+-- given
 abbrev pub found_at : ℕ → Found
 found_at name = record { name = Some name; next = name + 1 }
 
@@ -42,8 +54,9 @@ unfoldable pub first_or : List ℕ → ℕ → Found
 first_or [] past = no_more past
 first_or (name ∷ names) past = found_at name
 
--- From a number on, the next name of the bucket, or the next of them that stores the hash. Where there is none, it is the end, past the
--- names examined: at N or above no name is, and else the one of another bucket is the last.
+-- From a number on, the next name of the bucket, or the next of them that stores the hash. Where there is
+-- none, it is the end, past the names examined: at N or above no name is, and else the one of another bucket
+-- is the last.
 unfoldable pub next_in_bucket : NameIndex → (ℕ → ℕ) → ℕ → ℕ → Found
 next_in_bucket i hash_of bucket name = first_or (run_from i hash_of bucket name) (name + length (examined_from i hash_of bucket name))
 
@@ -59,8 +72,8 @@ hash_moved bucket hash f = record { answer = answered (option_map (λ name. reco
 
 -- a section, in its byte order
 module _ (order : RunTimeEndian) (s : Section) where
-  -- a bucket's first name, in an index whose parts are `p`: the bucket's start is skipped to and read; 0 is none; then the hashes before the first
-  -- name are skipped
+  -- a bucket's first name, in an index whose parts are `p`: the bucket's start is skipped to and read; 0 is
+  -- none; then the hashes before the first name are skipped
   unfoldable pub first_in_bucket : Parts → ℕ → Outcome (Option ℕ)
   first_in_bucket p bucket = do
     place ← skipped (4 * bucket) s p.bucket_data p.hash_table_data

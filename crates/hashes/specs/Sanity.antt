@@ -1,5 +1,6 @@
--- What a reader of the definitions may want to be sure of. The laws of proofs/TableLaws.antt and proofs/LookupLaws.antt that have these
--- types prove them.
+-- What a reader of the definitions may want to be sure of: when `find_by_bucket` gives none, that more steps
+-- than there are names contain an end, and that what this supposes can be had. The laws of
+-- proofs/TableLaws.antt and proofs/LookupLaws.antt that have these types prove them.
 use Rattle.std.specs.Prelude.{ℕ, ◌+◌, ◌≤◌, ◌<◌, ◌≡◌, true, ◌↔◌, List, length, take, Option, Some, None, Ok}
 use Rattle.reader.specs.Steps.{Linked, has_end, Taken}
 use Rattle.reader.specs.declared.endianity.RunTimeEndian.{RunTimeEndian}
@@ -14,7 +15,8 @@ use Rattle.reader.specs.Answers.{outcome}
 use Rattle.reader.specs.declared.common.NameTableIndex.{NameTableIndex}
 use Rattle.hashes.specs.declared.bucket.BucketName.{BucketName}
 
--- where `find_by_bucket` is not refused, it gives none exactly when the start that is stored for the bucket is 0
+-- where `find_by_bucket` is not refused, it gives none exactly when the start that is stored for the bucket
+-- is 0
 abbrev pub NoneAtZero : Type 0
 NoneAtZero =
     (order : RunTimeEndian) (s : List ℕ) (i : NameIndex) (bucket : ℕ) (found : Option NameBucketIter)

@@ -1,5 +1,12 @@
--- The hash table of an index: document 01, "Buckets and hashes" and the words of demand 3; DWARF 5, section 6.1.1.4.5. `s` is the
--- section; names and buckets are counted from 0.
+-- The hash table of an index: what is stored, runs, and the names of a hash (SPECIFICATION 10.1 and 10.2;
+-- DWARF 5, 6.1.1.4.5). `s` is the section and `i` the index, with N names and B buckets, which are counted
+-- from 0; `p` tells where its parts lie. Stored are for each bucket a start, 0 for an empty bucket, else one
+-- more than the number of its first name, and for each name a hash. A hash belongs to the bucket hash mod B;
+-- without buckets, to bucket 0. The run of a bucket with start s is empty if s is 0; else it is the names
+-- s - 1, s and so on, below N, as long as the stored hash of each belongs to the bucket. At the first name of
+-- another bucket the run is over, even if more names of the bucket come later. The names of a hash are those
+-- of its bucket's run that store exactly this hash.
+-- In DWARF 5 the names of a bucket stand together; gimli and this reader take tables in which they do not.
 use Rattle.std.specs.Prelude.{ℕ, suc, ◌+◌, ◌-◌, ◌*◌, ◌%◌, cond, List, [], length, take, eqb, Option, Some, None}
 use Rattle.reader.specs.Outcome.{Outcome, answered, ◌>>=◌}
 use Rattle.reader.specs.declared.common.NameTableIndex.{NameTableIndex}
@@ -19,7 +26,8 @@ bucket_of i hash = cond (eqb i.bucket_count 0) 0 (hash % i.bucket_count)
 unfoldable pub names_from : NameIndex → ℕ → List ℕ
 names_from i name = numbers_from name (i.name_count - name)
 
--- the names from a number on, as long as each belongs to the bucket; `hash_of` is the hash that is stored for a name
+-- the names from a number on, as long as each belongs to the bucket; `hash_of` is the hash that is stored for
+-- a name
 unfoldable pub run_from : NameIndex → (ℕ → ℕ) → ℕ → ℕ → List ℕ
 run_from i hash_of bucket name = take_while (λ n. eqb (bucket_of i (hash_of n)) bucket) (names_from i name)
 
@@ -41,7 +49,8 @@ module _ (order : RunTimeEndian) (s : Section) where
   unfoldable pub nth_of : ℕ → ℕ → ℕ
   nth_of table position = number_at order 4 s (table + 4 * position)
 
-  -- in an index with these parts, the start that is stored for a bucket: one more than the number of its first name, and 0 for a bucket without names
+  -- in an index with these parts, the start that is stored for a bucket: one more than the number of its
+  -- first name, and 0 for a bucket without names
   unfoldable pub stored_start : Parts → ℕ → ℕ
   stored_start p = nth_of p.bucket_data
 
@@ -58,7 +67,8 @@ module _ (order : RunTimeEndian) (s : Section) where
         hash ← read_number 4 order s place p.name_table_data
         answered (Some hash.value))
 
-  -- A bucket's run, with start s: names s-1, s and on, below N, as long as each stored hash modulo B is the bucket.
+  -- A bucket's run, with start s: names s-1, s and on, below N, as long as each stored hash modulo B is the
+  -- bucket.
   unfoldable pub run : NameIndex → ℕ → List ℕ
   run i bucket = from_start (stored_start (parts i) bucket) (run_from i (stored_hash (parts i)) bucket)
 

@@ -1,4 +1,4 @@
-// The calls of the crates `hashes` and `tables` (document 01, "Buckets and hashes"), a line for each lookup and for the table check. A
+// The calls of the crates `hashes` and `tables` (SPECIFICATION 10 and 11), a line for each lookup and for the table check. A
 // lookup's line has its cursor, and for each step the answer and the cursor after it.
 use case_lines::Numbers;
 use hashes::{NameBucketIter, NameHashIter, find_by_bucket, find_by_hash};

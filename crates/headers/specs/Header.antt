@@ -1,4 +1,15 @@
--- The header of an index: document 01, "Headers and layout"; DWARF 5, section 6.1.1.4.1, a line a field. `s` is the section.
+-- The header of an index (SPECIFICATION 5.2 to 5.5; DWARF 5, 6.1.1.4.1), a line a field. `s` is the section,
+-- and what is read begins at the place `at`. First the initial length, read in the whole section; the index
+-- is the part of so many bytes behind it, and where the section has fewer, it is 1 at the place behind the
+-- length. All else is read inside this part, which ends at `end`; each field is refused with 1 at its own
+-- place where too few bytes are left: the version, 2 bytes, which is refused with 3 and the version if it is
+-- not 5; 2 bytes of padding; the numbers of compile units, local type units, foreign type units, buckets and
+-- names, the size of the abbreviation table and that of the augmentation string, 4 bytes each; that string,
+-- which is none if its size is 0; and behind it 0, 3, 2 or 1 bytes of padding, as its size mod 4 is 0, 1, 2
+-- or 3. What is left is the content of the index.
+-- DWARF 5 counts the padding of the augmentation in its size, which then is a multiple of 4. Here, as in
+-- gimli, the size is that of the string alone, and the padding is passed over, whatever it is; so are the two
+-- bytes behind the version, which DWARF 5 reserves as 0.
 use Rattle.std.specs.Prelude.{ℕ, ◌%◌, cond, List, length, eqb, Option, Some, None}
 use Rattle.reader.specs.Outcome.{Outcome, answered, ◌>>=◌, ◌>>◌}
 use Rattle.reader.specs.Parts.{skipped, cut}
@@ -13,8 +24,8 @@ use Rattle.reader.specs.Errors.{require}
 use Rattle.reader.specs.declared.error.Error.TheVariants.{UnknownVersion}
 use Rattle.reader.specs.Parts.{Section}
 
--- how many bytes are skipped behind an augmentation, by the remainder of its size by 4 (document 02, No. 4): 0 skips 0, 1 skips 3, 2 skips 2,
--- 3 skips 1
+-- how many bytes are skipped behind an augmentation, by the remainder of its size by 4 (SPECIFICATION 5.4): 0
+-- skips 0, 1 skips 3, 2 skips 2, 3 skips 1
 unfoldable pub padding_for : ℕ → ℕ
 padding_for remainder =
     cond (eqb remainder 0) 0
@@ -23,13 +34,15 @@ padding_for remainder =
     -- the remainder is 3
     1))
 
--- the padding of a size: the fewest bytes that bring it to a multiple of 4 (`PaddingFills` and `PaddingLeast` of Sanity). DWARF 5 counts them in the
--- size, which is then such a multiple, and nothing is skipped; gimli skips them for any size, whatever they are, and so it is here
--- (docs/DIFFERENCES.md). The field that DWARF 5 calls padding is another, the two bytes behind the version
+-- the padding of a size: the fewest bytes that bring it to a multiple of 4 (`PaddingFills` and `PaddingLeast`
+-- of Sanity). DWARF 5 counts them in the size, which is then such a multiple, and nothing is skipped; gimli
+-- skips them for any size, whatever they are, and so it is here (docs/DIFFERENCES.md). The field that DWARF 5
+-- calls padding is another, the two bytes behind the version
 unfoldable pub padding : ℕ → ℕ
 padding size = padding_for (size % 4)
 
--- the augmentation: none if the size is 0; else its place and length, and the place past its padding, which depends on the size alone
+-- the augmentation: none if the size is 0; else its place and length, and the place past its padding, which
+-- depends on the size alone
 unfoldable pub augmentation : ℕ → List ℕ → ℕ → ℕ → Outcome (Read (Option AugmentationString))
 augmentation size s at end = cond (eqb size 0) (answered (record { value = None; next = at })) (do
   string ← cut size s at end

@@ -1,4 +1,9 @@
--- The headers of a section, one after another: document 01, `NameIndexHeaderIter::next`.
+-- The headers of a section, one after another: `NameIndexHeaderIter::next` (SPECIFICATION 5.1). `s` is the
+-- section; a cursor is a place, the first one 0. The step is refused with 13, then with 14 where the cursor
+-- lies behind the section's end, and hands the cursor back as it was. At the section's end it answers the
+-- end, with the cursor unmoved. Else it reads the header at the cursor: after a header the cursor is where
+-- its index ends; after a refusal it is at the section's end, so that the next step answers the end.
+-- gimli's iterator holds its own bytes and has neither 13 nor 14.
 use Rattle.std.specs.Prelude.{ℕ, ◌-◌, cond, List, length, ltb, leb, eqb, Option, Some, None}
 use Rattle.reader.specs.Outcome.{Outcome, answered, refused, ◌>>=◌, ◌>>◌}
 use Rattle.reader.specs.declared.error.Error.TheVariants.{DoesNotFit, SectionTooLong}
@@ -35,6 +40,7 @@ module _ (order : RunTimeEndian) (s : Section) where
     h ← header order s at
     answered (Some h))
 
-  -- the headers from a place on, each where the index before it ends, up to the section's end or the first that is refused
+  -- the headers from a place on, each where the index before it ends, up to the section's end or the first
+  -- that is refused
   unfoldable pub headers_from : ℕ → Listing NameIndexHeader
   headers_from at = listing header_at (λ h. h.content.end) (length s - at) at

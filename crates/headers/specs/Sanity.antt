@@ -1,5 +1,7 @@
--- What a reader of the definitions, and the crates above, may want to be sure of. The laws of proofs/HeaderLaws.antt that have these
--- types prove them.
+-- What a reader of the definitions, and the crates above, may want to be sure of: how many bytes of padding
+-- there are, for every size, and that gimli's formula gives the same; a header fits its section; a walk over
+-- the headers ends; a header depends on the bytes of its own part alone (SPECIFICATION 5). The laws of
+-- proofs/HeaderLaws.antt that have these types prove them.
 use Rattle.std.specs.Prelude.{ℕ, ◌+◌, ◌-◌, ◌*◌, ◌%◌, ◌≤◌, ◌<◌, ◌≡◌, true, List, [], ◌∷◌, map, length, Some}
 use Rattle.std.proofs.Math.Seq.{slice}
 use Rattle.reader.specs.Outcome.{answered}
@@ -22,7 +24,8 @@ PaddingCases =
     × (size % 4 ≡ 2 → padding size ≡ 2)
     × (size % 4 ≡ 3 → padding size ≡ 1)
 
--- for every size they skip as many bytes as the formula without cases does, which is gimli's `(4 - (size & 3)) & 3`: `& 3` is the remainder by 4
+-- for every size they skip as many bytes as the formula without cases does, which is gimli's `(4 - (size &
+-- 3)) & 3`: `& 3` is the remainder by 4
 abbrev pub PaddingSum : Type 0
 PaddingSum = (size : ℕ) → padding size ≡ (4 - size % 4) % 4
 
@@ -49,8 +52,8 @@ StepsForward =
     (order : RunTimeEndian) (s : List ℕ) (c : NameIndexHeaderIter) (h : NameIndexHeader) → (header_step order s c).answer ≡ answered (Some h)
     → (c.at < (header_step order s c).cursor.at) × ((header_step order s c).cursor.at ≤ length s)
 
--- so a walk over the headers of a section ends: of any steps, each given the cursor of the one before, one is the end if they are
--- more than the bytes that were left
+-- so a walk over the headers of a section ends: of any steps, each given the cursor of the one before, one is
+-- the end if they are more than the bytes that were left
 abbrev pub WalksEnd : Type 0
 WalksEnd =
     (order : RunTimeEndian) (s : List ℕ) (c : NameIndexHeaderIter) (ts : List (Taken NameIndexHeader NameIndexHeaderIter)) → length s ≤ longest → c.at ≤ length s

@@ -1,4 +1,4 @@
-// The header of an index (gimli's `NameIndexHeader::parse`; document 01, "Headers and layout"; DWARF 5, section 6.1.1.4.1), in two
+// The header of an index (gimli's `NameIndexHeader::parse`; SPECIFICATION 5.2 to 5.5; DWARF 5, 6.1.1.4.1), in two
 // steps: `cut_header` cuts the index's part out by its length, and `parse_body` reads the fields inside that part.
 // (s, at, end) stay parameters: with a struct of s and end, as was tried, contracts are no plainer (docs/DECISIONS.md).
 ghost use Rattle.std.specs.Prelude.{◌≡◌};

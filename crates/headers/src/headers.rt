@@ -1,4 +1,4 @@
-// The headers of a section, one after another (gimli's `DebugNames` and `NameIndexHeaderIter`; document 01, "Headers and layout").
+// The headers of a section, one after another (gimli's `DebugNames` and `NameIndexHeaderIter`; SPECIFICATION 5.1).
 ghost use Rattle.std.specs.Prelude.{◌≡◌};
 ghost use Rattle.reader.specs.Steps.{step_of};
 ghost use Rattle.headers.specs.Headers.{first_header, header_step};

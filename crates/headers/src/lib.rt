@@ -1,5 +1,5 @@
-// The headers of a .debug_names section (gimli's names.rs from `DebugNames` to `NameIndexHeader`; document 01, "Headers and layout";
-// DWARF 5, section 6.1.1.4.1).
+// The headers of a .debug_names section (gimli's names.rs from `DebugNames` to `NameIndexHeader`; SPECIFICATION 5; DWARF 5,
+// 6.1.1.4.1).
 //
 // gimli's readers hold the bytes; here cursors and headers are numbers by value, and the section is lent to each call. So a caller
 // may bring any numbers: a step first tests that the section is not too long (refusal 13), then that its cursor fits the section

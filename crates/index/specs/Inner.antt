@@ -1,12 +1,13 @@
--- What only the code needs: what single functions of it answer or leave. A reader of the other files need not know these.
+-- What only the code needs: what single functions of it answer or leave. A reader of the other files need not
+-- know these.
 use Rattle.std.specs.Prelude.{ℕ, cond, List, [], ◌∷◌, ltb}
 use Rattle.reader.specs.Outcome.{Outcome, answered, ◌>>◌}
 use Rattle.reader.specs.declared.error.Error.TheVariants.{UnexpectedEof}
 use Rattle.reader.specs.Errors.{refusal}
 use Rattle.index.specs.declared.layout.Parts.{Parts}
 
--- `cut_parts` by comparing places, where the index ends inside the section (`cut_inside`): each place is compared with the end, and
--- the place before the first that lies past it is refused
+-- `cut_parts` by comparing places, where the index ends inside the section (`cut_inside`): each place is
+-- compared with the end, and the place before the first that lies past it is refused
 unfoldable pub refuse_past : ℕ → List ℕ → Outcome (Unit {0})
 refuse_past end [] = answered tt
 refuse_past end (a ∷ []) = answered tt

@@ -1,4 +1,13 @@
--- Where the parts of an index lie: document 01, "Headers and layout"; DWARF 5, section 6.1.1.4. `s` is the section.
+-- Where the parts of an index lie, and when it fits (SPECIFICATION 6.1 and 6.2; DWARF 5, 6.1.1.4). `s` is the
+-- section and `i` the index. From the place where the index begins on, eight parts follow one another:
+-- compile units and local type units, a word each; foreign type units, 8 bytes each in both formats; the
+-- starts of the buckets, 4 bytes each; the hashes of the names, 4 bytes each, but none where there are no
+-- buckets; the string offsets and the entry offsets of the names, a word each; and the abbreviation table,
+-- whose size in bytes the index has. A word has 4 bytes or 8, by the format. The pool is what is left up to
+-- the index's end.
+-- An index fits if its eight parts end at or before its own end, and that is not behind the section's end.
+-- Each call on an index tests 13, where the section is too long, and then 14, where the index does not fit.
+-- gimli's index holds its own bytes and has neither 13 nor 14.
 use Rattle.std.specs.Prelude.{ℕ, ◌≡◌, ◌+◌, ◌*◌, ◌≤◌, cond, List, [], ◌∷◌, length, get_or, ltb, eqb}
 use Rattle.reader.specs.Outcome.{Outcome, answered, ◌>>◌}
 use Rattle.reader.specs.declared.error.Error.TheVariants.{DoesNotFit, SectionTooLong}
@@ -26,8 +35,8 @@ no_index = record {
 unfoldable pub hash_bytes : ℕ → ℕ → ℕ
 hash_bytes buckets names = cond (eqb buckets 0) 0 (4 * names)
 
--- the sizes of the eight parts, in order: the compile units, the local and the foreign type units, the buckets, the hashes, the
--- strings, the entry offsets and the abbreviations
+-- the sizes of the eight parts, in order: the compile units, the local and the foreign type units, the
+-- buckets, the hashes, the strings, the entry offsets and the abbreviations
 unfoldable pub sizes : NameIndex → List ℕ
 sizes i =
     word_bytes i.format i.compile_unit_count
@@ -77,6 +86,7 @@ fitted s i = do
   fail_if (ltb i.end (parts i).entry_pool) DoesNotFit
   answered (parts i)
 
--- these are the parts of an index that fits: what an inner function requires that reads a hash table at bare places
+-- these are the parts of an index that fits: what an inner function requires that reads a hash table at bare
+-- places
 abbrev pub PartsFit : List ℕ → Parts → Type 0
 PartsFit s p = answered p ≡ fitted s p.index

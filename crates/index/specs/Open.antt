@@ -1,4 +1,10 @@
--- An index from a header: document 01, `NameIndex::new`. `s` is the section.
+-- Opening an index, for C `debug_names_open`, and the index of a header, `NameIndex::new` (SPECIFICATION 6.3).
+-- `s` is the section and `i` the index. 13 is tested first; then 14 where the index ends behind the section's
+-- end, or before it begins. Then the eight parts in order: the first that does not end inside the index is
+-- refused with 1 at the place where it begins. Then the abbreviation table is read whole, and its refusal is
+-- the answer. Else the index is answered with the places of its parts, and it fits the section. Of a header
+-- only the format, the counts and the content are looked at; units, starts, hashes, strings, entry offsets
+-- and entries are not.
 use Rattle.std.specs.Prelude.{ℕ, List, [], ◌∷◌, length, ltb}
 use Rattle.reader.specs.Outcome.{Outcome, answered, ◌>>=◌, ◌>>◌}
 use Rattle.reader.specs.declared.error.Error.TheVariants.{DoesNotFit, SectionTooLong}

@@ -1,5 +1,7 @@
--- What a reader of the definitions, and the crates above, may want to be sure of. The laws of proofs/ that have these types prove
--- them: LayoutLaws.antt and OpenLaws.antt.
+-- What a reader of the definitions, and the crates above, may want to be sure of: the parts follow one
+-- another and lie inside the section, an opened index fits, and opening depends on the bytes of its own part
+-- alone (SPECIFICATION 6). The laws of proofs/ that have these types prove them: LayoutLaws.antt and
+-- OpenLaws.antt.
 use Rattle.std.specs.Prelude.{ℕ, suc, ◌+◌, ◌≤◌, ◌<◌, ◌≡◌, List, length, get_or}
 use Rattle.std.proofs.Math.Seq.{slice}
 use Rattle.reader.specs.Outcome.{answered}

@@ -1,4 +1,5 @@
--- Words: numbers of 4 or 8 bytes, as the format of an index has them, and lists of them. `s` is the section.
+-- Words: numbers of 4 or 8 bytes, as the format of an index has them, and lists of them: SPECIFICATION 3.3
+-- and 3.4. `s` is the section.
 use Rattle.std.specs.Prelude.{ℕ, ◌*◌}
 use Rattle.reader.specs.Outcome.{Outcome, ◌>>=◌}
 use Rattle.reader.specs.Parts.{Section, skipped}

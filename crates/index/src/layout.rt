@@ -1,4 +1,4 @@
-// Where the parts of an index lie (gimli's `NameIndex`; document 01, "Headers and layout"; DWARF 5, section 6.1.1.4).
+// Where the parts of an index lie (gimli's `NameIndex`; SPECIFICATION 6.1 and 6.2; DWARF 5, 6.1.1.4).
 //
 // gimli's struct holds a reader for each part. Here it holds the counts, the place where the parts begin and the place where the
 // pool ends; every part's place follows from these, so that no two fields can contradict each other.

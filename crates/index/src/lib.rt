@@ -1,5 +1,5 @@
-// From a header to an opened index: where an index's parts lie (gimli's `NameIndex` and `NameIndex::new`; document 01, "Headers and
-// layout"; DWARF 5, section 6.1.1.4).
+// From a header to an opened index: where an index's parts lie (gimli's `NameIndex` and `NameIndex::new`; SPECIFICATION 6; DWARF 5,
+// 6.1.1.4).
 //
 // gimli's readers hold the bytes; here headers and indexes are numbers by value, and the section is lent to each call. So a caller
 // may bring any numbers: each call first tests that the section is not too long (refusal 13), then that what it was given fits the

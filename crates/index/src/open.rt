@@ -1,4 +1,4 @@
-// An index from a header (gimli's `NameIndex::new`; document 01, "Headers and layout").
+// An index from a header (gimli's `NameIndex::new`; SPECIFICATION 6.3).
 ghost use Rattle.std.specs.Prelude.{◌≡◌};
 ghost use Rattle.reader.specs.Answers.{outcome};
 ghost use Rattle.index.specs.Open.{index_of, opened, name_index};

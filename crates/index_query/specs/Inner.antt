@@ -1,4 +1,6 @@
--- What only the code needs: what its steps leave of the records of an index. A reader of the other files need not know these.
+-- What only the code needs: what its steps leave of the records of an index. A reader of the other files need
+-- not know these. `s` is .debug_names and `strs` is .debug_str; `text` has the bytes of the name that is
+-- asked for, and `offset` is the place of the index in the section.
 use Rattle.std.specs.Prelude.{ℕ, cond, List, [], ◌∷◌, eqb, Option, Some, None}
 use Rattle.reader.specs.Listing.{Listing, item, followed_by, shown_by}
 use Rattle.reader.specs.Parts.{Section}
@@ -47,6 +49,7 @@ module _ (order : RunTimeEndian) (s strs : Section) (hash : ℕ) (text : List �
   abbrev pub matches_left : Parts → Candidate → Listing ℕ
   matches_left p c = item c.name.0 (matches_from p c.next)
 
-  -- the records that a cursor has left: those of the entries from its place on, and those of the names that match after it
+  -- the records that a cursor has left: those of the entries from its place on, and those of the names that
+  -- match after it
   unfoldable pub index_left : ℕ → Parts → IndexIter → Listing Record
   index_left offset p c = followed_by (entry_records order s offset p c.name.0 c.at) (all_series order s strs hash text offset p (matches_from p c.next))

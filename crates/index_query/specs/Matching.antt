@@ -1,5 +1,7 @@
--- The names that match: document 01, "The section query". `s` is .debug_names and `strs` is .debug_str; `text` has the bytes of the name
--- that is asked for.
+-- The names that match (SPECIFICATION 12.4). `s` is .debug_names and `strs` is .debug_str; `p` has the opened
+-- index with the places of its parts, and `text` the bytes of the name that is asked for. The string of each
+-- candidate is read in turn; a candidate matches if its string has exactly these bytes. The first string that
+-- is refused breaks the list off, and so refuses the query.
 use Rattle.std.specs.Prelude.{ℕ, Bool, true, false, cond, List, [], ◌∷◌, take, drop, eqb}
 use Rattle.reader.specs.Outcome.{Outcome, answered, ◌>>=◌}
 use Rattle.reader.specs.Listing.{Listing, ended, item, or_broken}

@@ -1,5 +1,9 @@
--- The records of an index: document 01, "The section query". `s` is .debug_names and `strs` is .debug_str; `text` has the bytes of the name
--- that is asked for, and `offset` is the place of the index in the section.
+-- The records of an index (SPECIFICATION 12.3 to 12.5). `s` is .debug_names and `strs` is .debug_str; `hash`
+-- is the hash and `text` has the bytes of the name that is asked for; `p` has the opened index with the
+-- places of its parts, and `offset` is its place in the section. They are the records of the series of each
+-- candidate that matches, in the order of the names' numbers: the series of one that matches is read before
+-- the next candidate is looked at, and a series that two of them share counts twice. The first refusal that
+-- is met breaks the list off.
 use Rattle.std.specs.Prelude.{ℕ, List}
 use Rattle.reader.specs.Listing.{Listing, ended, broken, item, or_broken, followed_by}
 use Rattle.reader.specs.declared.endianity.RunTimeEndian.{RunTimeEndian}

@@ -1,4 +1,5 @@
--- What a reader of the definitions may want to be sure of. The laws of proofs/ that have these types prove them.
+-- What a reader of the definitions may want to be sure of: when two strings are the same
+-- (SPECIFICATION 12.4). The laws of proofs/ that have these types prove them.
 use Rattle.std.specs.Prelude.{ℕ, ◌≡◌, true, ◌↔◌, List}
 use Rattle.index_query.specs.Matching.{same_bytes}
 

@@ -1,4 +1,7 @@
--- The records of the series of a name: document 01, "The section query". `s` is the section, and `offset` is the place of the index in it.
+-- The records of the series of a name (SPECIFICATION 12.5). `s` is the section, `p` has the opened index with
+-- the places of its parts, and `offset` is its place in the section. For each entry of the series in turn
+-- the whole entry is read, then its unit is found, then its DIE offset; the first refusal breaks the list
+-- off. An entry offset that leads out of the pool is refused with 1 at the pool's start.
 use Rattle.std.specs.Prelude.{ℕ}
 use Rattle.reader.specs.Outcome.{Outcome}
 use Rattle.reader.specs.Listing.{Listing, shown_by}

@@ -1,4 +1,4 @@
-// The section query in one index (document 01, "The section query"): from an index to its records, one after another. The walk over the
+// The section query in one index (SPECIFICATION 12.3 to 12.6): from an index to its records, one after another. The walk over the
 // indexes of a section stands above it.
 #![tactic(auto)]
 

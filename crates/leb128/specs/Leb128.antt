@@ -1,6 +1,14 @@
--- LEB128: DWARF 5, section 7.6. Seven bits a byte, the low ones first; bit 7 says that another follows, so that the last byte of a number is the
--- first below 128. Document 01's limits of ten and three bytes are 64 and 16 bits, in any number of bytes (document 02, No. 8). (The
--- library's `leb` tests "at most" and has nothing to do with LEB128.)
+-- LEB128 numbers (SPECIFICATION 4; DWARF 5, 7.6). Each byte has seven bits of the number in its low seven
+-- bits, the lowest seven in the first byte; bit 7 says that another byte follows, so that the last byte of a
+-- number is the first below 128. `s` is the section; a number is read at the place `at` of its part, which
+-- ends at `end`, and answered with the place past its last byte. `leb128::read::unsigned` reads 64 bits and
+-- `leb128::read::u16` 16, in any number of bytes: an assembler may pad a number with bytes 80 and a last 00.
+-- The bytes are looked at one after another. One with a bit beyond the width is refused with 7, whether or
+-- not it continues. Where a byte is missing, it is 1 at the place of that byte.
+-- DWARF 5 sets no limit on a number; a bit beyond 64 bits (16 bits) is 7 in gimli and here. gimli refuses
+-- with 7 every number whose tenth byte (its third, of 16 bits) continues; here it may run on, so long as all
+-- further bytes add zero bits. All else is read as gimli reads it.
+-- (The library's `leb` tests "at most" and has nothing to do with LEB128.)
 use Rattle.std.specs.Prelude.{ℕ, zero, suc, ◌+◌, ◌*◌, ◌^◌, ◌%◌, ◌/◌, List, [], ◌∷◌, ◌++◌, map, Bool, false, cond, ◌||◌, length, replicate, leb, ltb}
 use Rattle.std.proofs.Math.Seq.{slice}
 use Rattle.reader.specs.Outcome.{Outcome, answered, ◌>>◌}
@@ -23,15 +31,17 @@ unfoldable pub base128 : List ℕ → ℕ
 base128 [] = 0
 base128 (b ∷ bs) = b % 128 + 128 * base128 bs
 
--- the limits: how many bits a number may have, its width. `leb128::read::unsigned` has 64, `leb128::read::u16` has 16.
+-- the limits: how many bits a number may have, its width. `leb128::read::unsigned` has 64,
+-- `leb128::read::u16` has 16.
 abbrev pub unsigned_limit : ℕ
 unsigned_limit = 64
 
 abbrev pub u16_limit : ℕ
 u16_limit = 16
 
--- the number with these bytes, of which the first stands at the place `at`. Where a bit beyond the width is set, the bytes that are there make
--- 2 ^ bits or more: refusal 7 (`ByteByByte` says where it comes). Else, where its last byte is missing, refusal 1 at the place of that byte.
+-- the number with these bytes, of which the first stands at the place `at`. Where a bit beyond the width is
+-- set, the bytes that are there make 2 ^ bits or more: refusal 7 (`ByteByByte` says where it comes). Else,
+-- where its last byte is missing, refusal 1 at the place of that byte.
 unfoldable pub number_of_bytes : ℕ → List ℕ → ℕ → Outcome (Read ℕ)
 number_of_bytes bits bs at = do
   fail_if (leb (2 ^ bits) (base128 bs)) BadUnsignedLeb128
@@ -42,7 +52,8 @@ number_of_bytes bits bs at = do
 unfoldable pub leb128 : ℕ → List ℕ → ℕ → ℕ → Outcome (Read ℕ)
 leb128 bits s at end = number_of_bytes bits (number_bytes (slice at end s)) at
 
--- 7.6's encoder: while 128 or more is left, a byte with the low seven bits and bit 7 set; then what is left. `encoded` has turns enough.
+-- 7.6's encoder: while 128 or more is left, a byte with the low seven bits and bit 7 set; then what is left.
+-- `encoded` has turns enough.
 unfoldable pub encoded_in : ℕ → ℕ → List ℕ
 encoded_in zero n = n ∷ []
 encoded_in (suc turns) n =
@@ -53,6 +64,7 @@ encoded_in (suc turns) n =
 unfoldable pub encoded : ℕ → List ℕ
 encoded n = encoded_in n n
 
--- the same bytes, each with bit 7 set, then `more` bytes 80, and 00: how an assembler pads a number to a fixed length
+-- the same bytes, each with bit 7 set, then `more` bytes 80, and 00: how an assembler pads a number to a
+-- fixed length
 unfoldable pub padded : ℕ → ℕ → List ℕ
 padded more n = map (λ b. b % 128 + 128) (encoded n) ++ (replicate more 0x80 ++ (0 ∷ []))

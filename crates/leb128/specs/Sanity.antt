@@ -1,5 +1,8 @@
--- What a reader of the definitions, and the crates above, may want to be sure of. The laws of proofs/ that have these types prove
--- them: Leb128Laws.antt, Leb128Limits.antt and Leb128Bytes.antt.
+-- What a reader of the definitions, and the crates above, may want to be sure of: every number is read back,
+-- in its shortest form and padded; how it is read a byte at a time (SPECIFICATION 4.3); and that gimli's
+-- rule, which refuses a number whose tenth (third) byte continues, reads all others the same
+-- (SPECIFICATION 4.4). The laws of proofs/ that have these types prove them: Leb128Laws.antt,
+-- Leb128Limits.antt and Leb128Bytes.antt.
 use Rattle.std.specs.Prelude.{ℕ, suc, ◌+◌, ◌-◌, ◌*◌, ◌^◌, ◌%◌, ◌<◌, ◌≡◌, Bool, false, cond, ◌||◌, List, [], ◌∷◌, ◌++◌, length, get_or, replicate, leb, ltb}
 use Rattle.std.proofs.Math.Seq.{slice}
 use Rattle.reader.specs.Outcome.{Outcome, answered, refused, ◌>>◌, demand, refuse_if}
@@ -12,8 +15,8 @@ pub data Writes (v : ℕ) : List ℕ → Type 0 where
   shortest : Writes v (encoded v)
   longer : (more : ℕ) → Writes v (padded more v)
 
--- what is written in one of these ways for any number below 2 ^ 64, and for any below 2 ^ 16, is read back where it stands at `at`, whatever
--- follows it, with the next place right after it
+-- what is written in one of these ways for any number below 2 ^ 64, and for any below 2 ^ 16, is read back
+-- where it stands at `at`, whatever follows it, with the next place right after it
 abbrev pub Leb128ReadsBack : ℕ → Type 0
 Leb128ReadsBack bits =
     (v : ℕ) (bs s after : List ℕ) (at end : ℕ) → Writes v bs → v < 2 ^ bits → slice at end s ≡ bs ++ after
@@ -43,8 +46,8 @@ Leb128Forward = (bits : ℕ) (s : List ℕ) (at end : ℕ) (r : Read ℕ) → le
 abbrev pub Leb128InPart : Type 0
 Leb128InPart = (bits : ℕ) (s t : List ℕ) (at end : ℕ) → slice at end s ≡ slice at end t → leb128 bits s at end ≡ leb128 bits t at end
 
--- The byte b at position i, counted from 0, has a bit set beyond the width if its low seven bits, which count for 128 ^ i times as much there,
--- make 2 ^ bits or more.
+-- The byte b at position i, counted from 0, has a bit set beyond the width if its low seven bits, which count
+-- for 128 ^ i times as much there, make 2 ^ bits or more.
 unfoldable pub beyond : ℕ → ℕ → ℕ → Bool
 beyond bits i b = leb (2 ^ bits) (128 ^ i * (b % 128))
 
@@ -57,14 +60,16 @@ some_beyond bits i (b ∷ bs) = beyond bits i b || some_beyond bits (suc i) bs
 abbrev pub BeyondTheWidth : Type 0
 BeyondTheWidth = (bits : ℕ) (bs : List ℕ) → leb (2 ^ bits) (base128 bs) ≡ some_beyond bits 0 bs
 
--- of the byte at position i as many bits count as the width has left there (a difference stops at 0): of the tenth byte 64 - 63, of the third
--- 16 - 14, and of every further byte none. Whether the byte continues does not matter.
+-- of the byte at position i as many bits count as the width has left there (a difference stops at 0): of the
+-- tenth byte 64 - 63, of the third 16 - 14, and of every further byte none. Whether the byte continues does
+-- not matter.
 abbrev pub BitsLeft : Type 0
 BitsLeft = (bits i b : ℕ) → beyond bits i b ≡ leb (2 ^ (bits - 7 * i)) (b % 128)
 
--- Document 02's words, a byte at a time: these are the bytes that are left of the part, the first at the place `at` and at position i of the
--- number, and what stands before them makes `value`. Where no byte is left, it is missing: 1 at its place. A byte with a bit set beyond the
--- width is 7, whatever follows it or does not. The first byte below 128 is the last.
+-- The reading of SPECIFICATION 4.3, a byte at a time: these are the bytes that are left of the part, the
+-- first at the place `at` and at position i of the number, and what stands before them makes `value`. Where
+-- no byte is left, it is missing: 1 at its place. A byte with a bit set beyond the width is 7, whatever
+-- follows it or does not. The first byte below 128 is the last.
 unfoldable pub byte_by_byte : ℕ → ℕ → ℕ → List ℕ → ℕ → Outcome (Read ℕ)
 byte_by_byte bits i value [] at = refused 1 at
 byte_by_byte bits i value (b ∷ bs) at =
@@ -75,8 +80,8 @@ byte_by_byte bits i value (b ∷ bs) at =
 abbrev pub ByteByByte : Type 0
 ByteByByte = (bits : ℕ) (s : List ℕ) (at end : ℕ) → leb128 bits s at end ≡ byte_by_byte bits 0 0 (slice at end s) at
 
--- gimli's rule: the byte at the position `last`, counted from 0, if there is one, must be at most `top`, else 7. As `top` is below
--- 128, no number runs on past it.
+-- gimli's rule: the byte at the position `last`, counted from 0, if there is one, must be at most `top`, else
+-- 7. As `top` is below 128, no number runs on past it.
 unfoldable pub gimli_of_bytes : ℕ → ℕ → List ℕ → ℕ → Outcome (Read ℕ)
 gimli_of_bytes last top bs at = do
   refuse_if (ltb top (get_or bs last 0)) 7 0
@@ -91,7 +96,8 @@ abbrev pub GimliReadsTheSame : ℕ → ℕ → ℕ → Type 0
 GimliReadsTheSame bits last top =
     (s : List ℕ) (at end : ℕ) → get_or (number_bytes (slice at end s)) last 0 < 128 → leb128 bits s at end ≡ gimli_leb128 last top s at end
 
--- gimli's `unsigned` takes ten bytes, of which the tenth is 0 or 1; its `u16` takes three, of which the third is at most 3
+-- gimli's `unsigned` takes ten bytes, of which the tenth is 0 or 1; its `u16` takes three, of which the third
+-- is at most 3
 abbrev pub UnsignedAsGimli : Type 0
 UnsignedAsGimli = GimliReadsTheSame unsigned_limit 9 1
 
@@ -109,10 +115,11 @@ unsigned s = leb128 unsigned_limit s 0 (length s)
 abbrev u16 : List ℕ → Outcome (Read ℕ)
 u16 s = leb128 u16_limit s 0 (length s)
 
--- Computed, for 64 bits and for 16: padding, short and long; the largest number, padded; a bit beyond the width in the tenth (third) byte,
--- which continues, in the byte behind it, and there with the continuation bit, each the last byte of the part; and a part that merely ends.
--- Then numbers among other bytes: a part that ends behind a tenth (third) byte, which continues within the width, a padded number, a bit beyond
--- the width with more bytes behind it, and such a bit behind the end of the part.
+-- Computed, for 64 bits and for 16: padding, short and long; the largest number, padded; a bit beyond the
+-- width in the tenth (third) byte, which continues, in the byte behind it, and there with the continuation
+-- bit, each the last byte of the part; and a part that merely ends. Then numbers among other bytes: a part
+-- that ends behind a tenth (third) byte, which continues within the width, a padded number, a bit beyond the
+-- width with more bytes behind it, and such a bit behind the end of the part.
 abbrev pub PaddedComputed : Type 0
 PaddedComputed =
     (unsigned (replicate 10 0x80 ++ 0x00 ∷ []) ≡ answered (record { value = 0; next = 11 }))

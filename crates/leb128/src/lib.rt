@@ -1,4 +1,4 @@
-// LEB128 numbers of 64 and of 16 bits (gimli's leb128.rs; document 01, "Bytes and numbers"; document 02, No. 8; DWARF 5, section 7.6), each
+// LEB128 numbers of 64 and of 16 bits (gimli's leb128.rs; SPECIFICATION 4; DWARF 5, 7.6), each
 // read at a place of a part as the readings of `reader` are. A number may be padded to any length; a set bit beyond its width is 7.
 // (s, at, end) stay parameters: with a struct of s and end, as was tried, contracts are no plainer (docs/DECISIONS.md).
 #![tactic(auto)]

@@ -1,5 +1,5 @@
--- What a reader of the definitions may want to be sure of: that decimal digits are right, and examples of lines. The laws of these types prove it, in
--- proofs/DecimalLaws.antt and proofs/TextLaws.antt.
+-- What a reader of the definitions may want to be sure of: that decimal digits are right, and examples of
+-- lines. The laws of these types prove it, in proofs/DecimalLaws.antt and proofs/TextLaws.antt.
 use Rattle.std.specs.Prelude.{ℕ, ◌+◌, ◌-◌, ◌*◌, ◌/◌, ◌%◌, ◌≤◌, ◌<◌, ◌≡◌, cond, List, [], ◌∷◌, ◌++◌, map, get_or, ltb, Option, Some, None}
 use Prim.Native.String.{String}
 use Rattle.listing.specs.declared.lines.Line.{Line}
@@ -36,8 +36,9 @@ index place names buckets missed = Line.Index (record { place = record { 0 = pla
 abbrev name : ℕ → Option ℕ → ℕ → ℕ → Line
 name number hash string entries = Line.Name (record { name = record { 0 = number }; hash = hash; string = record { 0 = string }; entries = entries })
 
--- Case A's lines; then lines with several digits in every field, with the largest numbers that the code's types hold (of the place that of the longest
--- section), and with "-" for missed and for a hash; no indexes, and twenty; and two refusals.
+-- Case A's lines; then lines with several digits in every field, with the largest numbers that the code's
+-- types hold (of the place that of the longest section), and with "-" for missed and for a hash; no indexes,
+-- and twenty; and two refusals.
 abbrev pub lines_written : List (List ℕ)
 lines_written =
     line_text (index 0 3 2 (Some 0))

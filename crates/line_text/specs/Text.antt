@@ -1,9 +1,10 @@
--- The text of a listing's lines as lists of bytes: document 01, "Bytes to try".
---
--- A line is its fields one after another and a line end, the byte 10. A field is its word, a blank, and its number in decimal digits; each field but the
--- first of a line has a blank before it, too. (The words below are written with their blanks.) The line of an index has the fields index, names,
--- buckets and missed; that of a name has name, hash, string and entries; the last line has indexes alone. Where there is no number, missed or hash of
--- an index without buckets, a "-" stands in its place. A refusal's line is the word refused and its number.
+-- The text of a listing's lines as lists of bytes (SPECIFICATION 13.1 and 13.2).
+-- A line is its fields one after another and a line end, the byte 10. A field is its word, a blank, and its
+-- number in decimal digits; each field but the first of a line has a blank before it, too. (The words below
+-- are written with their blanks.) The line of an index has the fields index, names, buckets and missed; that
+-- of a name has name, hash, string and entries; the last line has indexes alone. Where there is no number,
+-- missed or hash of an index without buckets, a "-" stands in its place. A refusal's line is the word refused
+-- and its number.
 use Rattle.std.specs.Prelude.{ℕ, zero, suc, ◌+◌, ◌/◌, ◌%◌, cond, List, [], ◌∷◌, ◌++◌, ltb, Option, Some, None}
 use Prim.Native.Char.{code}
 use Prim.Native.String.{String, [] as no_more, ◌∷◌ as ◌then◌}
@@ -24,15 +25,16 @@ bytes (c then s) = code c ∷ bytes s
 abbrev pub digit : ℕ → ℕ
 digit d = 48 + d
 
--- The digits of n, in so many turns at most: each turn gives the last digit and divides by 10, so n + 1 turns are enough.
+-- The digits of n, in so many turns at most: each turn gives the last digit and divides by 10, so n + 1 turns
+-- are enough.
 unfoldable pub digits_in : ℕ → ℕ → List ℕ
 digits_in zero n = []
 digits_in (suc turns) n =
     let before : List ℕ = digits_in turns (n / 10) in
     cond (ltb n 10) (digit n ∷ []) (before ++ (digit (n % 10) ∷ []))
 
--- A number in decimal digits: below 10 its one digit, else the digits of n / 10 and behind them its last digit, n % 10. `DecimalSteps` of
--- Sanity says so, without the turns.
+-- A number in decimal digits: below 10 its one digit, else the digits of n / 10 and behind them its last
+-- digit, n % 10. `DecimalSteps` of Sanity says so, without the turns.
 unfoldable pub decimal : ℕ → List ℕ
 decimal n = digits_in (suc n) n
 

@@ -1,4 +1,4 @@
-// The text of a listing's lines (document 01, "Bytes to try"): what is printed of the line of an index, of a name and of a refusal, and of the last
+// The text of a listing's lines (SPECIFICATION 13.1 and 13.2): what is printed of the line of an index, of a name and of a refusal, and of the last
 // line. specs/Text.antt says which bytes they are.
 #![tactic(auto)]
 

@@ -1,4 +1,7 @@
--- The line of an index: document 01, "index place, N, B, missed". `s` is the section.
+-- The line of an index (SPECIFICATION 13.1 and 13.2): the place of its header, its numbers of names and of
+-- buckets, and how many names the table check says are missed: 0 where it is complete, no number where there
+-- is no bucket. `s` is the section and `i` the index. The line is refused by the opening of the index
+-- (SPECIFICATION 6.3), or else by the table check (SPECIFICATION 11.1).
 use Rattle.std.specs.Prelude.{ℕ, Option, Some, None}
 use Rattle.reader.specs.Outcome.{Outcome, answered, ◌>>=◌}
 use Rattle.reader.specs.declared.endianity.RunTimeEndian.{RunTimeEndian}
@@ -10,8 +13,8 @@ use Rattle.tables.specs.Check.{table_check}
 use Rattle.listing.specs.declared.index_line.Opened.{Opened}
 use Rattle.reader.specs.Parts.{Section}
 
--- how many names are missed, by what the table check says; without a hash table there is no such number. The name and the hash of an incomplete
--- answer are not printed (document 02, No. 2).
+-- how many names are missed, by what the table check says; without a hash table there is no such number. The
+-- name and the hash of an incomplete answer are not printed (SPECIFICATION 13.1).
 abbrev pub missed_by : TableCheck → Option ℕ
 missed_by TableCheck.NoTable = None
 missed_by TableCheck.Complete = Some 0

@@ -1,4 +1,13 @@
--- The lines of a section, and the steps over them: document 01, "Bytes to try". `s` is the section.
+-- The lines of a section, and the steps over them (SPECIFICATION 13.1 to 13.3), which gimli does not have.
+-- `s` is the section and `c` a cursor. 13 comes before every line. For each header from place 0 on there is a
+-- line for its index, then one for each of its names, in order; the last line has the number of indexes. A
+-- refusal stands in the place of its line, and nothing follows it.
+-- A step of a listing that is over answers the end, and the cursor stays. Else, if the cursor's name is below
+-- the number of names of the open index, it answers the line of that name, with 13 and 14 of that index. Else
+-- it is refused with 14 if more indexes were listed than there are bytes before the next header's place,
+-- which is tested before 13. Else it is the header step, with its refusals, and answers the line of the
+-- header's index; at the section's end it answers the last line, and the listing is over. After every refusal
+-- the listing is over.
 use Rattle.std.specs.Prelude.{ℕ, ◌+◌, true, false, cond, List, [], ◌∷◌, length, ltb, leb}
 use Rattle.std.specs.Prelude.{Option, Some, None}
 use Rattle.reader.specs.Outcome.{Outcome, answered, refused}
@@ -39,13 +48,14 @@ line_or c (refused n v) more = record { answer = refused n v; cursor = ended_at 
 
 -- a section, in its byte order
 module _ (order : RunTimeEndian) (s : Section) where
-  -- the lines of these names of an index, and what comes after them; a refusal stands in the place of its line, and ends the listing
+  -- the lines of these names of an index, and what comes after them; a refusal stands in the place of its
+  -- line, and ends the listing
   unfoldable pub name_lines : NameIndex → List ℕ → Listing Line → Listing Line
   name_lines i [] after = after
   name_lines i (n ∷ ns) after = or_broken (name_line order s i (record { 0 = n })) λ l. item (Line.Name l) (name_lines i ns after)
 
-  -- the lines of these headers, where that many indexes were listed before them: for each its own line and those of its names in order, and
-  -- after the last how many there were
+  -- the lines of these headers, where that many indexes were listed before them: for each its own line and
+  -- those of its names in order, and after the last how many there were
   unfoldable pub header_lines : ℕ → Listing NameIndexHeader → Listing Line
   header_lines listed ended = item (Line.Indexes listed) ended
   header_lines listed (broken n v) = broken n v
@@ -61,7 +71,8 @@ module _ (order : RunTimeEndian) (s : Section) where
   header_line c None = record { answer = answered (Some (Line.Indexes c.listed)); cursor = ended_at c }
   header_line c (Some h) = line_or c (opened_index order s h) λ o. record { answer = answered (Some (Line.Index o.line)); cursor = past_index c h o.index }
 
-  -- the step to the next index: a cursor that has listed more indexes than there are bytes before its place does not fit
+  -- the step to the next index: a cursor that has listed more indexes than there are bytes before its place
+  -- does not fit
   unfoldable pub head_step : ListingIter → Step Line ListingIter
   head_step c = line_or c (fail_if (ltb c.at c.listed) DoesNotFit) λ u. line_or c (header_step order s (record { at = c.at })).answer (header_line c)
 

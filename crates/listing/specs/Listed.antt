@@ -1,5 +1,5 @@
--- What a program that prints the lines of all steps prints: one theorem about lists of steps of any length. The law `lines_listed` of
--- proofs/LineLaws.antt proves it.
+-- What a program that prints the lines of all steps prints: one theorem about lists of steps of any length.
+-- The law `lines_listed` of proofs/LineLaws.antt proves it.
 use Rattle.std.specs.Prelude.{ℕ, List}
 use Rattle.reader.specs.Steps.{Linked, ListsInOrder, answers, Taken}
 use Rattle.reader.specs.Listing.{answers_of}
@@ -8,9 +8,10 @@ use Rattle.listing.specs.Lines.{section_lines, first_line, line_step}
 use Rattle.listing.specs.declared.lines.Line.{Line}
 use Rattle.listing.specs.declared.lines.ListingIter.{ListingIter}
 
--- Whatever list of steps follows the first cursor, each given the cursor of the one before: their answers up to the first end are the
--- beginning of the section's lines, in order and without a gap, a refusal with its number and value in the place of its line and last; and
--- the first end is the first step before which all lines are answered.
+-- Whatever list of steps follows the first cursor, each given the cursor of the one before: their answers up
+-- to the first end are the beginning of the section's lines, in order and without a gap, a refusal with its
+-- number and value in the place of its line and last; and the first end is the first step before which all
+-- lines are answered.
 abbrev pub LinesListed : Type 0
 LinesListed =
     (order : RunTimeEndian) (s : List ℕ) (steps : List (Taken Line ListingIter))

@@ -1,4 +1,8 @@
--- The line of a name: document 01, "name number, stored hash, string offset, entries in its series". `s` is the section.
+-- The line of a name (SPECIFICATION 13.1 and 13.2): the name's number, the hash that is stored for it, none
+-- where the index has no buckets, its string offset, and how many entries its series has. `s` is the section
+-- and `i` the index. 13 and 14 are tested first. Then the hash, the string
+-- offset and the series are read in this order, and the first that is refused is the answer. The string
+-- itself is not read.
 use Rattle.reader.specs.Outcome.{Outcome, answered, ◌>>=◌}
 use Rattle.reader.specs.Listing.{counted}
 use Rattle.reader.specs.declared.endianity.RunTimeEndian.{RunTimeEndian}

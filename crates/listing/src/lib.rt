@@ -1,4 +1,4 @@
-// The lines of a listing of a section (document 01, "Bytes to try": what the listing program prints): a line for each index, a line for each
+// The lines of a listing of a section (SPECIFICATION 13: what the listing program prints): a line for each index, a line for each
 // of its names, and last how many indexes were listed. A refusal stands in the place of its line, and ends the listing.
 //
 // What is listed is decided here, a line at a step; a program only prints the lines.

@@ -1,4 +1,4 @@
-// Listings of sections with one thing changed, or two (document 01, "Bytes to try"): what each line can be refused by, what stands in its place,
+// Listings of sections with one thing changed, or two (SPECIFICATION 13): what each line can be refused by, what stands in its place,
 // and which refusal comes first. The file stdin beside src/ has the cases, one on each line of its first 8,192 bytes, with what their letters and
 // parts are, and behind them the longest section that the listing program takes; the file stdout is worked out by hand from document 01.
 #![tactic(auto)]

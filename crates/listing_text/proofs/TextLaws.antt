@@ -13,12 +13,11 @@ use Rattle.listing.specs.declared.lines.Line.{Line}
 use Rattle.listing.specs.declared.lines.ListingIter.{ListingIter}
 use Rattle.listing.specs.Lines.{section_lines, first_line, line_step}
 use Rattle.listing.proofs.LineLaws.{left, Reached, NextLine, each, first-reached, first-left}
-use Rattle.line_text.specs.Text.{line_text, refused_text, text_of}
-use Rattle.line_text.specs.declared.LineText.{LineText}
+use Rattle.line_text.specs.Text.{line_text, refused_text}
 use Rattle.listing_text.specs.declared.TextStep.{TextStep}
 use Rattle.listing_text.specs.Listing.{joined, listing_text, section_text}
 use Rattle.listing_text.specs.Written.{written_of, written_for, answer_text, text_step}
-use Rattle.listing_text.specs.Listed.{StepsFrom, last_step, step_then, shown, TextListed}
+use Rattle.listing_text.specs.Listed.{StepsFrom, last_step, step_then, printed_bytes, TextListed}
 
 -- the texts of what steps have to answer are the text of the listing
 abbrev text_or_nothing : Option (List ℕ) → List ℕ
@@ -46,7 +45,7 @@ module _ (s : List ℕ) where
   Given c = Reached RunTimeEndian.Little s c
 
   abbrev texts : List TextStep → List ℕ
-  texts steps = joined (map (λ t. shown t.text) steps)
+  texts steps = joined (map (λ t. printed_bytes t.text) steps)
 
   -- what is printed for a step whose answer is known
   written-answer : (c : ListingIter) (t : TextStep) (o : Outcome (Option Line)) → written_of t ≡ text_step s c → (step_of c).answer ≡ o

@@ -1,4 +1,5 @@
--- What a program that prints the texts of its steps prints. The law `text-listed` of proofs/TextLaws.antt proves it.
+-- What a program that prints the texts of its steps prints. The law `text-listed` of proofs/TextLaws.antt
+-- proves it.
 use Rattle.std.specs.Prelude.{ℕ, ◌≡◌, List, [], ◌∷◌, map, Option, Some, None}
 use Rattle.listing.specs.declared.lines.ListingIter.{ListingIter}
 use Rattle.listing.specs.Lines.{first_line}
@@ -8,17 +9,18 @@ use Rattle.listing_text.specs.declared.TextStep.{TextStep}
 use Rattle.listing_text.specs.Listing.{joined, section_text}
 use Rattle.listing_text.specs.Written.{written_of, text_step}
 
--- The steps that a program makes from a cursor on: each is given the cursor of the one before it, and the last is the first that prints nothing.
+-- The steps that a program makes from a cursor on: each is given the cursor of the one before it, and the
+-- last is the first that prints nothing.
 pub data StepsFrom (s : List ℕ) : ListingIter → List TextStep → Type 0 where
   last_step : {c : ListingIter} {t : TextStep} → written_of t ≡ text_step s c → ◌≡◌ {A = Option LineText} t.text None → StepsFrom s c (t ∷ [])
   step_then : {c : ListingIter} {t : TextStep} {ts : List TextStep} {l : LineText} → written_of t ≡ text_step s c → ◌≡◌ {A = Option LineText} t.text (Some l)
       → StepsFrom s t.cursor ts → StepsFrom s c (t ∷ ts)
 
 -- what a step prints: the text that it gives, or nothing
-abbrev pub shown : Option LineText → List ℕ
-shown None = []
-shown (Some l) = text_of l
+abbrev pub printed_bytes : Option LineText → List ℕ
+printed_bytes None = []
+printed_bytes (Some l) = text_of l
 
 -- The texts of these steps, one after another, are the text of the section's listing.
 abbrev pub TextListed : Type 0
-TextListed = (s : List ℕ) (steps : List TextStep) → StepsFrom s first_line steps → joined (map (λ t. shown t.text) steps) ≡ section_text s
+TextListed = (s : List ℕ) (steps : List TextStep) → StepsFrom s first_line steps → joined (map (λ t. printed_bytes t.text) steps) ≡ section_text s

@@ -1,4 +1,5 @@
--- The text of a section's listing: document 01, "Bytes to try". `s` is the section.
+-- The text of a section's listing (SPECIFICATION 13.1 and 13.2): that of its lines, one after another, and,
+-- where the listing is refused, that of the refusal last. `s` is the section, which is read in little order.
 use Rattle.std.specs.Prelude.{ℕ, List, [], ◌∷◌, ◌++◌}
 use Rattle.reader.specs.Listing.{Listing, ended, broken, item}
 use Rattle.reader.specs.declared.endianity.RunTimeEndian.{RunTimeEndian}

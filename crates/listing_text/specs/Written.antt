@@ -1,4 +1,6 @@
--- What a step of the listing prints. `s` is the section.
+-- What a step of the listing prints, in little order: `next_text` (SPECIFICATION 13.3). `s` is the section
+-- and `c` a cursor. It is the text of the line that the step answers, or of the refusal in its place, and
+-- nothing where the listing is over.
 use Rattle.std.specs.Prelude.{ℕ, List, Option, Some, None}
 use Rattle.reader.specs.Outcome.{Outcome, answered, refused}
 use Rattle.reader.specs.Steps.{Step}

@@ -1,4 +1,4 @@
-// The listing of a section as text (document 01, "Bytes to try"), a line at a step: a program that prints what the steps give, up to the first that
+// The listing of a section as text (SPECIFICATION 13.3), a line at a step: a program that prints what the steps give, up to the first that
 // gives nothing, prints the text of the section's listing.
 #![tactic(auto)]
 

@@ -21,7 +21,7 @@ use Rattle.reader.specs.Steps.{Linked, no_steps, step_then, Taken, answers, step
 use Rattle.reader.specs.Lists.{numbers_from}
 use Rattle.names.specs.Sanity.{named, the_end, NamesInOrder}
 use Rattle.index.specs.declared.layout.Parts.{Parts}
-use Rattle.names.specs.Names.{name_string_in, name_string_offset_in, before, first_name, step_from, name_step, name_string_offset, name_string, name_string_bytes}
+use Rattle.names.specs.Names.{name_string_in, name_string_offset_in, name_cursor, first_name, step_from, name_step, name_string_offset, name_string, name_string_bytes}
 use Rattle.reader.specs.Answers.{outcome}
 use Rattle.names.specs.declared.table.NameTableIter.{NameTableIter}
 
@@ -63,15 +63,15 @@ string_bytes order s strs i name = tested (ltb longest (length s)) (ltb longest 
     tested false false e f = by_parts (fitted s i)
 
 -- the step of a cursor before name k, where the index fits
-step_fits : (s : List ℕ) (i : NameIndex) (k : ℕ) → length s ≤ longest → Fits s i → name_step s i (before k) ≡ step_from i k
+step_fits : (s : List ℕ) (i : NameIndex) (k : ℕ) → length s ≤ longest → Fits s i → name_step s i (name_cursor k) ≡ step_from i k
 unfolding name_step
 step_fits s i k short fits = rw (fitted-fits s i short fits)
 
-step_end : (i : NameIndex) (k : ℕ) → leb i.name_count k ≡ true → step_from i k ≡ record { answer = the_end; cursor = before k }
+step_end : (i : NameIndex) (k : ℕ) → leb i.name_count k ≡ true → step_from i k ≡ record { answer = the_end; cursor = name_cursor k }
 unfolding step_from
 step_end i k e = rw e
 
-step_name : (i : NameIndex) (k : ℕ) → leb i.name_count k ≡ false → step_from i k ≡ record { answer = named k; cursor = before (k + 1) }
+step_name : (i : NameIndex) (k : ℕ) → leb i.name_count k ≡ false → step_from i k ≡ record { answer = named k; cursor = name_cursor (k + 1) }
 unfolding step_from
 step_name i k e = rw e
 
@@ -94,7 +94,7 @@ after-end i k j h =
 
 -- the steps from a cursor before name k on, with ends enough
 steps_from : (s : List ℕ) (i : NameIndex) (rs : List (Taken NameTableIndex NameTableIter)) (k j : ℕ) → length s ≤ longest → Fits s i → length rs ≤ j
-    → Linked (name_step s i) (before k) rs → answers rs ≡ take (length rs) (after i k j)
+    → Linked (name_step s i) (name_cursor k) rs → answers rs ≡ take (length rs) (after i k j)
 steps_from s i [] k j short fits enough no_steps = refl
 steps_from s i (r ∷ rs) k zero short fits enough linked = absurd (omega arith)
 steps_from s i (r ∷ rs) k (suc j) short fits enough (step_then is linked) =
@@ -102,14 +102,14 @@ steps_from s i (r ∷ rs) k (suc j) short fits enough (step_then is linked) =
     (λ n m room same. steps_from s i rs n m short fits room (rw (sym same) linked))
   where
     by_cases : (t : Bool) → leb i.name_count k ≡ t → step_of r.answer r.cursor ≡ step_from i k
-        → ((n m : ℕ) → length rs ≤ m → r.cursor ≡ before n → answers rs ≡ take (length rs) (after i n m))
+        → ((n m : ℕ) → length rs ≤ m → r.cursor ≡ name_cursor n → answers rs ≡ take (length rs) (after i n m))
         → outcome r.answer ∷ answers rs ≡ take (suc (length rs)) (after i k (suc j))
     by_cases true e step rest =
-        let ended : step_from i k ≡ record { answer = the_end; cursor = before k } = step_end i k e in
+        let ended : step_from i k ≡ record { answer = the_end; cursor = name_cursor k } = step_end i k e in
         rw (after-end i k j (leb-true _ _ e))
         (ap₂ (λ o os. o ∷ os) (ap (λ t. t.answer) (step ∙ ended)) (rest k j (omega arith) (ap (λ t. t.cursor) (step ∙ ended))))
     by_cases false e step rest =
-        let gave : step_from i k ≡ record { answer = named k; cursor = before (k + 1) } = step_name i k e in
+        let gave : step_from i k ≡ record { answer = named k; cursor = name_cursor (k + 1) } = step_name i k e in
         rw (after-name i k (suc j) (leb-false _ _ e))
         (ap₂ (λ o os. o ∷ os) (ap (λ t. t.answer) (step ∙ gave)) (rest (k + 1) (suc j) (omega arith) (ap (λ t. t.cursor) (step ∙ gave))))
 

@@ -1,4 +1,7 @@
--- The counts of an index that fits the section `s`: document 01, "From gimli's types to ours".
+-- The counts of an index (SPECIFICATION 7.1). `s` is the section and `i` the index. Each call tests 13 and 14
+-- first; then a count is the one that the index has, whatever the bytes are. Type units are the local and the
+-- foreign ones together. An index has a hash table if it has a bucket.
+-- In gimli the number of type units may be too large for its type; in an index that fits it is not.
 use Rattle.std.specs.Prelude.{ℕ, ◌+◌, Bool, List, ltb}
 use Rattle.reader.specs.Outcome.{Outcome, answered, ◌>>◌}
 use Rattle.index.specs.declared.layout.NameIndex.{NameIndex}

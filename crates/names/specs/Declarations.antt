@@ -1,4 +1,8 @@
--- The abbreviation of a code: SPECIFICATION 8.4. `s` is the section.
+-- The abbreviation of a code: `names::get_abbreviation` (SPECIFICATION 8.4; DWARF 5, 6.1.1.4.7). `s` is the
+-- section and `i` the index. 13 and 14 are tested first; then the first declaration with the code in the
+-- index's table is answered, or none. The table of an index that was never opened may be bad: a refused
+-- declaration that is met first gives its refusal. gimli hands out declarations that were read before; here
+-- they are read from the bytes at each search.
 use Rattle.std.specs.Prelude.{ℕ, Option}
 use Rattle.reader.specs.Outcome.{Outcome, ◌>>=◌}
 use Rattle.reader.specs.Parts.{Section}

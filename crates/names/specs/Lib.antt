@@ -1,5 +1,5 @@
--- What each call of the crate answers. Counts, Units, Names and Declarations follow the files of src/. Sanity: the theorem on the steps over
--- the names.
+-- What each call of the crate answers. Counts, Units, Names and Declarations follow the files of src/.
+-- Sanity: the theorem on the steps over the names.
 pub mod Counts
 pub mod Units
 pub mod Names

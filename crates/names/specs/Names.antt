@@ -1,5 +1,13 @@
--- The names of an index and their strings: document 01, "Headers and layout" and "Strings". `s` is .debug_names, and `strs`
--- is .debug_str.
+-- The names of an index and their strings (SPECIFICATION 7.5, 7.6 and 7.8; DWARF 5, 6.1.1.4). `s` is
+-- .debug_names, `strs` is .debug_str, and `i` is the index; `p` has one that fits, with the places of its
+-- parts. Names are counted from 0, as in gimli; DWARF 5 counts them from 1.
+-- The step over the names: 13 and 14 of the index are tested first, and any cursor fits. Below N, the number
+-- of names, it answers the cursor's name, and the cursor has the next number; at N or above it answers the
+-- end, with the cursor unmoved.
+-- The string offset of name k: 13 and 14, then element k of its list; where k is N, it is 1 at the list's
+-- end; where k is larger, 1 at its start. The string of a name, in this order: 13 for .debug_names, 13 for
+-- .debug_str, 14 of the index, the string offset, the string there. A refusal 1 of the offset carries a place
+-- in .debug_names, one of the string a place in .debug_str.
 use Rattle.std.specs.Prelude.{ℕ, ◌+◌, cond, List, length, ltb, leb}
 use Rattle.std.specs.Prelude.{Some, None}
 use Rattle.reader.specs.Outcome.{Outcome, answered, ◌>>=◌, ◌>>◌}
@@ -19,17 +27,17 @@ use Rattle.index.specs.Words.{nth_word}
 use Rattle.reader.specs.Parts.{Section}
 
 -- the cursor before a name, and the one before the first
-abbrev pub before : ℕ → NameTableIter
-before k = record { name_table_index = record { 0 = k } }
+abbrev pub name_cursor : ℕ → NameTableIter
+name_cursor k = record { name_table_index = record { 0 = k } }
 
 unfoldable pub first_name : NameTableIter
-first_name = before 0
+first_name = name_cursor 0
 
 -- the step of a cursor before name k: the end, unmoved, where k is the number of names or more, else name k
 unfoldable pub step_from : NameIndex → ℕ → Step NameTableIndex NameTableIter
 step_from i k = cond (leb i.name_count k)
-    (record { answer = answered None; cursor = before k })
-    (record { answer = answered (Some (record { 0 = k })); cursor = before (k + 1) })
+    (record { answer = answered None; cursor = name_cursor k })
+    (record { answer = answered (Some (record { 0 = k })); cursor = name_cursor (k + 1) })
 
 -- the step; 13 and 14 of the index are tested first, and any cursor fits
 unfoldable pub name_step : List ℕ → NameIndex → NameTableIter → Step NameTableIndex NameTableIter

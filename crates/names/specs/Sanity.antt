@@ -1,5 +1,6 @@
--- Theorems over several calls, and what a reader of the definitions may want to be sure of. The laws of proofs/NameLaws.antt that
--- have these types prove them.
+-- Theorems over several calls, and what a reader of the definitions may want to be sure of: the steps over
+-- the names answer all of them, in order, and then the end (SPECIFICATION 7.5). The laws of
+-- proofs/NameLaws.antt that have these types prove them.
 use Rattle.std.specs.Prelude.{ℕ, ◌≤◌, ◌≡◌, List, ◌++◌, map, length, take, replicate}
 use Rattle.std.specs.Prelude.{Option, Some, None}
 use Rattle.reader.specs.Outcome.{Outcome, answered}
@@ -19,8 +20,9 @@ named k = answered (Some (record { 0 = k }))
 abbrev pub the_end : Outcome (Option NameTableIndex)
 the_end = answered None
 
--- The names of an index that fits: whatever number of steps is made from `names`, each given the cursor that the one before it
--- handed back, their answers are the numbers 0 to N-1 in order, and then the end, again and again.
+-- The names of an index that fits: whatever number of steps is made from `names`, each given the cursor that
+-- the one before it handed back, their answers are the numbers 0 to N-1 in order, and then the end, again and
+-- again.
 abbrev pub NamesInOrder : Type 0
 NamesInOrder =
     (s : List ℕ) (i : NameIndex) (rs : List (Taken NameTableIndex NameTableIter)) → length s ≤ longest → Fits s i → Linked (name_step s i) first_name rs

@@ -1,4 +1,11 @@
--- The units of an index: document 01, "Headers and layout". `s` is the section.
+-- The units of an index (SPECIFICATION 7.2 to 7.4; DWARF 5, 6.1.1.4). `s` is the section and `i` the index.
+-- Each call tests 13 and 14 first; then the unit is found in the index that fits, which `p` has with the
+-- places of its parts. Unit k of a list is reached by a skip from the list's start and then read, both inside
+-- the list (SPECIFICATION 3.4): a number equal to the count is refused with 1 at the list's end, a larger one
+-- with 1 at the list's start. Compile units and local type units are offsets in .debug_info, a word each;
+-- foreign type units are signatures of 8 bytes, in both formats. In one count of type units the local ones
+-- come first, then the foreign ones. The default compile unit is compile unit 0 where the index has exactly
+-- one, else none.
 use Rattle.std.specs.Prelude.{ℕ, ◌-◌, ◌*◌, cond, ltb, eqb, Option, Some, None}
 use Rattle.reader.specs.Outcome.{Outcome, answered, ◌>>=◌}
 use Rattle.reader.specs.Parts.{skipped}

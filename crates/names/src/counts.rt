@@ -1,6 +1,6 @@
 // How many units, buckets and names an index has (gimli's counters of `NameIndex`). Each is given the section and the index, so that
 // 13 and 14 come first; they exclude that the sum of `type_unit_count` is too large for its type, as it may be in gimli.
-// Each is a call of its own in document 01 and in gimli; a function over the field would ask for a closure and be no shorter.
+// Each is a call of its own (SPECIFICATION 7.1), as in gimli; a function over the field would ask for a closure and be no shorter.
 ghost use Rattle.std.specs.Prelude.{◌≡◌};
 ghost use Rattle.reader.specs.Answers.{outcome};
 ghost use Rattle.names.specs.Counts.{compile_unit_count_of, local_type_unit_count_of, foreign_type_unit_count_of, type_unit_count, bucket_count_of, name_count_of, has_hash_table};

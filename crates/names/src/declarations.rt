@@ -1,4 +1,4 @@
-// The abbreviation of a code (gimli's `NameIndex::abbreviations` and `NameAbbreviations::get`; document 01, "Abbreviations").
+// The abbreviation of a code (gimli's `NameIndex::abbreviations` and `NameAbbreviations::get`; SPECIFICATION 8.4).
 ghost use Rattle.std.specs.Prelude.{◌≡◌};
 ghost use Rattle.reader.specs.Answers.{outcome};
 ghost use Rattle.names.specs.Declarations.{get_abbreviation};

@@ -1,5 +1,5 @@
 // What the fixed parts of an index say: its counts, its units, its names and their strings, and its abbreviations by code (gimli's
-// `NameIndex`; document 01, "Headers and layout" and "Strings"; DWARF 5, section 6.1.1.4).
+// `NameIndex`; SPECIFICATION 7 and 8.4; DWARF 5, 6.1.1.4).
 //
 // gimli's methods are functions here, given the section and the index: 13 and 14 are tested first, in this order. Beside some of them stands a
 // function whose name ends in `_in`: it is given the parts of an index that fits, and so tests nothing of it again.

@@ -1,5 +1,5 @@
 // The names of an index, one after another, and their strings (gimli's `names`, `NameTableIter`, `name_string_offset` and
-// `name_string`; document 01, "Headers and layout" and "Strings").
+// `name_string`; SPECIFICATION 7.5, 7.6 and 7.8).
 // (order, section, index) stay parameters: with a struct that lends the section, contracts are no plainer (docs/DECISIONS.md).
 ghost use Rattle.std.specs.Prelude.{◌≡◌};
 ghost use Rattle.reader.specs.Answers.{outcome};

@@ -1,6 +1,7 @@
--- Document 01's case A: its bytes, what the definitions say of its header, its parts, its units, its names, its abbreviations, its
--- entries and its hash table, that it fits, and that `name_entries`, `find_by_bucket` and `find_by_hash` give cursors with linked steps, so
--- that the theorems which suppose this speak of a real index.
+-- Case A of SPECIFICATION 16: its bytes, what the definitions say of its header, its parts, its units, its
+-- names, its abbreviations, its entries and its hash table, that it fits, and that `name_entries`,
+-- `find_by_bucket` and `find_by_hash` give cursors with linked steps, so that the theorems which suppose this
+-- speak of a real index.
 use Rattle.std.specs.Prelude.{ℕ, ◌^◌, ◌≤◌, ◌<◌, ◌≡◌, List, [], ◌∷◌, ◌++◌, length, take, drop, None, Ok}
 use Rattle.std.specs.Prelude.{Option, Some}
 use Rattle.reader.specs.Outcome.{Outcome, answered, refused}
@@ -22,7 +23,7 @@ use Rattle.reader.specs.Steps.{Linked, Taken}
 use Rattle.attributes.specs.declared.attribute.EntryParent.{EntryParent}
 use Rattle.entries.specs.declared.series.NameEntryIter.{NameEntryIter}
 use Rattle.entries.specs.declared.entry.NameEntry.{NameEntry}
-use Rattle.entries.specs.Entries.{handed}
+use Rattle.entries.specs.Entries.{as_name_entry}
 use Rattle.entries.specs.Series.{series, name_entries, entry_step}
 use Rattle.entries.specs.Facts.{entry_die_offset, entry_parent}
 use Rattle.reader.specs.Numbers.{Bytes}
@@ -37,8 +38,9 @@ use Rattle.reader.specs.declared.common.NameTableIndex.{NameTableIndex}
 use Rattle.hashes.specs.declared.hash.NameHashIter.{NameHashIter}
 use Rattle.hashes.specs.declared.bucket.BucketName.{BucketName}
 
--- the bytes, a line for each sentence of document 01: the length; the version and its padding; C; L; F; B; N; A; the augmentation;
--- the unit; the starts; the hashes; the strings; the entry offsets; the abbreviations; the pool
+-- the bytes of SPECIFICATION 16.1, a line for each of these: the length; the version and its padding; C; L;
+-- F; B; N; A; the augmentation; the unit; the starts; the hashes; the strings; the entry offsets; the
+-- abbreviations; the pool
 unfoldable pub case_a : List ℕ
 case_a =
     105 ∷ 0 ∷ 0 ∷ 0
@@ -98,9 +100,10 @@ index_a = record {
   end = 109;
 }
 
--- the places of its parts, as document 01 gives them; the two lists of type units are empty
+-- the places of its parts, as SPECIFICATION 16.1 gives them; the two lists of type units are empty
 unfoldable pub parts_a : Parts
 parts_a = record {
+  index = index_a;
   compile_unit_list = 36;
   local_type_unit_list = 40;
   foreign_type_unit_list = 40;
@@ -150,8 +153,8 @@ AbbreviationsOfA =
     get_abbreviation case_a index_a 1 ∷ get_abbreviation case_a index_a 2 ∷ []
     ≡ answered (Some (record { code = 1; tag = 0x2e; attributes = 86; next = 90 })) ∷ answered None ∷ []
 
--- the names' cursors are at 91, 97 and 103, which is what `EntryLookups` supposes; 3 is refused at the end of the entry offsets, and 4 at
--- their start
+-- the names' cursors are at 91, 97 and 103, which is what `EntryLookups` supposes; 3 is refused at the end of
+-- the entry offsets, and 4 at their start
 abbrev pub entries_of_a : ℕ → Outcome NameEntryIter
 entries_of_a k = name_entries RunTimeEndian.Little case_a index_a (record { 0 = k })
 
@@ -165,7 +168,7 @@ CursorsOfA =
 
 -- each name has one entry, at 0, 6 and 12, with code 1 and tag 0x2e; a code 0 ends its series
 abbrev pub series_of_a : ℕ → List (Outcome (Option NameEntry))
-series_of_a k = answers_of handed (series RunTimeEndian.Little case_a index_a (record { 0 = k }))
+series_of_a k = answers_of as_name_entry (series RunTimeEndian.Little case_a index_a (record { 0 = k }))
 
 abbrev pub entry_at : ℕ → List (Outcome (Option NameEntry))
 entry_at offset = answered (Some (record { offset = record { 0 = offset }; abbrev_code = 1; tag = 0x2e })) ∷ []
@@ -173,7 +176,8 @@ entry_at offset = answered (Some (record { offset = record { 0 = offset }; abbre
 abbrev pub SeriesOfA : Type 0
 SeriesOfA = series_of_a 0 ∷ series_of_a 1 ∷ series_of_a 2 ∷ [] ≡ entry_at 0 ∷ entry_at 6 ∷ entry_at 12 ∷ []
 
--- answers of the step that are linked from the cursor of name 0 on: its entry, the end at its code 0, and the end again
+-- answers of the step that are linked from the cursor of name 0 on: its entry, the end at its code 0, and the
+-- end again
 abbrev pub steps_of_a : List (Taken NameEntry NameEntryIter)
 steps_of_a =
     record { answer = Ok (Some (record { offset = record { 0 = 0 }; abbrev_code = 1; tag = 0x2e })); cursor = record { at = 96 } }
@@ -190,7 +194,8 @@ FactsOfA =
     (entry_die_offset RunTimeEndian.Little case_a index_a (record { 0 = 6 }) ≡ answered (Some (record { 0 = 0x20 })))
     × (entry_parent RunTimeEndian.Little case_a index_a (record { 0 = 6 }) ≡ answered EntryParent.NotKnown)
 
--- its buckets: 0 has the run 0, 1 has the run 1, 2, and there is no other; the name after the run of 0 is examined, too
+-- its buckets: 0 has the run 0, 1 has the run 1, 2, and there is no other; the name after the run of 0 is
+-- examined, too
 abbrev pub bucket_of_a : ℕ → Outcome (Option NameBucketIter)
 bucket_of_a bucket = find_by_bucket RunTimeEndian.Little case_a index_a bucket
 
@@ -205,8 +210,9 @@ RunsOfA =
     run RunTimeEndian.Little case_a index_a 0 ∷ examined RunTimeEndian.Little case_a index_a 0 ∷ run RunTimeEndian.Little case_a index_a 1 ∷ examined RunTimeEndian.Little case_a index_a 1 ∷ []
     ≡ (0 ∷ []) ∷ (0 ∷ 1 ∷ []) ∷ (1 ∷ 2 ∷ []) ∷ (1 ∷ 2 ∷ []) ∷ []
 
--- answers of the steps that are linked from the cursor of bucket 0 on: name 0 with its hash, the end at name 1, which is of another bucket,
--- the end at name 2, where a step after an end goes on, and then the end at the number of names, again and again
+-- answers of the steps that are linked from the cursor of bucket 0 on: name 0 with its hash, the end at name
+-- 1, which is of another bucket, the end at name 2, where a step after an end goes on, and then the end at
+-- the number of names, again and again
 abbrev pub bucket_steps_of_a : List (Taken BucketName NameBucketIter)
 bucket_steps_of_a =
     record { answer = Ok (Some (record { name = record { 0 = 0 }; hash = 4 })); cursor = bucket_cursor 0 1 }
@@ -236,7 +242,7 @@ HashStepsOfA = Linked (hash_step RunTimeEndian.Little case_a index_a) (hash_curs
 abbrev pub LentA : Type 0
 LentA = Bytes case_a × (index_a.bucket_count < 2 ^ 32)
 
--- the five lines of its listing, as document 01 has them, with a number of missed names
+-- the five lines of its listing, as SPECIFICATION 16.3 has them, with a number of missed names
 abbrev pub name_line_of : ℕ → ℕ → ℕ → Line
 name_line_of number hash string = Line.Name (record { name = record { 0 = number }; hash = Some hash; string = record { 0 = string }; entries = 1 })
 
@@ -245,7 +251,7 @@ lines_missing missed =
     item (Line.Index (record { place = record { 0 = 0 }; name_count = 3; bucket_count = 2; missed = Some missed }))
     (item (name_line_of 0 4 1) (item (name_line_of 1 7 5) (item (name_line_of 2 9 6) (item (Line.Indexes 1) ended))))
 
--- its listing; and with second start 4 the same lines, where only the count of missed names differs: the lost name and its hash are not printed
--- (document 02, No. 2)
+-- its listing; and with second start 4 the same lines, where only the count of missed names differs: the lost
+-- name and its hash are not printed (SPECIFICATION 13.1)
 abbrev pub ListingOfA : Type 0
 ListingOfA = (section_lines RunTimeEndian.Little case_a ≡ lines_missing 0) × (section_lines RunTimeEndian.Little (second_start 4) ≡ lines_missing 2)

@@ -1,12 +1,12 @@
--- Document 01, "Bytes to try": the cases marked P, as a computed list of the definitions. `given` is what the definitions say,
--- `expected` what document 01 says, and document 02 (No. 2) of the first name that an incomplete table loses.
+-- SPECIFICATION 16.2: the cases marked P, as a computed list of the definitions. `given` is what the
+-- definitions say, `expected` what SPECIFICATION 16.2 says.
 use Rattle.std.specs.Prelude.{ℕ, ◌≡◌, List, [], ◌∷◌, ◌++◌, length, replicate}
 use Rattle.reader.specs.Outcome.{Outcome, answered, refused}
 use Rattle.reader.specs.declared.reader.Read.{Read}
 use Rattle.leb128.specs.Leb128.{leb128, unsigned_limit, u16_limit}
 use Rattle.reader.specs.declared.endianity.RunTimeEndian.{RunTimeEndian}
 use Rattle.entries.specs.declared.entry.NameEntry.{NameEntry}
-use Rattle.entries.specs.Entries.{name_entry_handed}
+use Rattle.entries.specs.Entries.{name_entry}
 use Rattle.hashes.specs.Table.{names_of_hash}
 use Rattle.tables.specs.declared.TableCheck.{TableCheck}
 use Rattle.tables.specs.Check.{table_check}
@@ -16,34 +16,34 @@ use Rattle.p_cases.specs.Lost.{lost_one, lost_two}
 use Rattle.p_cases.specs.Queries.{query_of_a, found_in_a}
 
 -- what a case asks for
-pub data Answer : Type 0 where
-  number : Outcome (Read ℕ) → Answer
-  entry : Outcome NameEntry → Answer
-  names : List ℕ → Answer
-  check : Outcome TableCheck → Answer
-  query : Queried → Answer
+pub data CaseAnswer : Type 0 where
+  number : Outcome (Read ℕ) → CaseAnswer
+  entry : Outcome NameEntry → CaseAnswer
+  names : List ℕ → CaseAnswer
+  check : Outcome TableCheck → CaseAnswer
+  query : Queried → CaseAnswer
 
 -- `leb128::read::unsigned` and `leb128::read::u16` at the start of these bytes
-abbrev unsigned : List ℕ → Answer
+abbrev unsigned : List ℕ → CaseAnswer
 unsigned s = number (leb128 unsigned_limit s 0 (length s))
 
-abbrev u16 : List ℕ → Answer
+abbrev u16 : List ℕ → CaseAnswer
 u16 s = number (leb128 u16_limit s 0 (length s))
 
 -- `name_entry` in case A
-abbrev entry_of_a : ℕ → Answer
-entry_of_a offset = entry (name_entry_handed RunTimeEndian.Little case_a index_a (record { 0 = offset }))
+abbrev entry_of_a : ℕ → CaseAnswer
+entry_of_a offset = entry (name_entry RunTimeEndian.Little case_a index_a (record { 0 = offset }))
 
 -- what a hash lists in case A
-abbrev hash_of_a : ℕ → Answer
+abbrev hash_of_a : ℕ → CaseAnswer
 hash_of_a hash = names (names_of_hash RunTimeEndian.Little case_a index_a hash)
 
 -- the table check of case A, and of case A with another second start
-abbrev check_of_a : List ℕ → Answer
+abbrev check_of_a : List ℕ → CaseAnswer
 check_of_a s = check (table_check RunTimeEndian.Little s index_a)
 
-abbrev pub given : List Answer
-given =
+abbrev pub cases_given : List CaseAnswer
+cases_given =
     unsigned (replicate 9 0xff ++ 0x01 ∷ [])
     ∷ unsigned (replicate 9 0xff ++ 0x02 ∷ [])
     ∷ u16 (0xff ∷ 0xff ∷ 0x03 ∷ [])
@@ -61,12 +61,13 @@ given =
     ∷ query query_of_a
     ∷ []
 
--- nine ff then 01 is 2^64-1, then 02 is 7; as u16, ff ff 03 is 65535, ff ff 04 is 7; entry 5 is 10; entry 18 is 1 at 109; entry 19
--- is 1 at 91; hash 4 lists 0; 9 lists 2; 6 lists none; missed is 0 (complete); second start 3 makes it 1 and 4 makes it 2, in both with 1 as
--- the smallest missed name and 7 as its hash; 5 refuses 1 at 48; the query (7, "de") has total 1 and the record 0, 6, name 1, tag 0x2e, kind 1,
--- value 0, DIE 0x20
-abbrev pub expected : List Answer
-expected =
+-- nine ff then 01 is 2^64-1, then 02 is 7; as u16, ff ff 03 is 65535, ff ff 04 is 7; entry 5 is 10; entry 18
+-- is 1 at 109; entry 19 is 1 at 91; hash 4 lists 0; 9 lists 2; 6 lists none; missed is 0 (complete); second
+-- start 3 makes it 1 and 4 makes it 2, in both with 1 as the smallest missed name and 7 as its hash; 5
+-- refuses 1 at 48; the query (7, "de") has total 1 and the record 0, 6, name 1, tag 0x2e, kind 1, value 0,
+-- DIE 0x20
+abbrev pub cases_expected : List CaseAnswer
+cases_expected =
     number (answered (record { value = 18446744073709551615; next = 10 }))
     ∷ number (refused 7 0)
     ∷ number (answered (record { value = 65535; next = 3 }))
@@ -86,4 +87,4 @@ expected =
 
 -- the theorem
 unfoldable pub PCases : Type 0
-PCases = given ≡ expected
+PCases = cases_given ≡ cases_expected

@@ -1,5 +1,6 @@
--- Case A's query, and demand 3 on case A: what its first two parts say of it, and for the third, on case A and on a section of two indexes of
--- which one has no hash table, that what it supposes holds there, and what it says.
+-- Case A's query, and demand 3 on case A: what its first two parts say of it, and for the third, on case A
+-- and on a section of two indexes of which one has no hash table, that what it supposes holds there, and what
+-- it says.
 use Rattle.std.specs.Prelude.{ℕ, ◌^◌, ◌<◌, ◌≡◌, List, [], ◌∷◌, ◌++◌, map, length, take, drop, None}
 use Rattle.reader.specs.Outcome.{answered}
 use Rattle.reader.specs.declared.endianity.RunTimeEndian.{RunTimeEndian}
@@ -18,7 +19,8 @@ use Rattle.hashes.specs.Demand3.{bucket_answers, hash_answers, bucket_names, has
 use Rattle.tables.specs.Demand3.{ListsAll}
 use Rattle.p_cases.specs.CaseA.{case_a, strings_a, header_a, index_a, series_of_a, steps_of_a, bucket_steps_of_a, hash_steps_of_a}
 
--- The first part: the steps of bucket 0, of hash 9 and of name 0 list the bucket's run, the names of the hash and the series.
+-- The first part: the steps of bucket 0, of hash 9 and of name 0 list the bucket's run, the names of the hash
+-- and the series.
 abbrev pub LookupsInA : Type 0
 LookupsInA =
     ListsInOrder (bucket_answers bucket_steps_of_a) (bucket_names RunTimeEndian.Little case_a (parts index_a) (run RunTimeEndian.Little case_a index_a 0))
@@ -29,7 +31,8 @@ LookupsInA =
 abbrev pub AllListedInA : Type 0
 AllListedInA = (hash : ℕ) → hash < 2 ^ 32 → ListsAll RunTimeEndian.Little case_a index_a hash
 
--- a function's record in document 01's columns: index offset, entry offset, name number, tag 0x2e, unit kind 1 and its value, DIE offset
+-- a function's record, its fields as in SPECIFICATION 12.5: index offset, entry offset, name number, tag
+-- 0x2e, unit kind 1 and its value, DIE offset
 abbrev pub function_at : ℕ → ℕ → ℕ → ℕ → ℕ → Record
 function_at index entry name unit die = record {
   unit_value = unit;
@@ -84,8 +87,9 @@ FoundA =
     × (map answered new ≡ take 2 (expected RunTimeEndian.Little case_a strings_a 7 de (open_a ∷ [])))
     × (function_at 0 6 1 0 0x20 ∷ old ∷ [] ≡ new ++ drop (length new) (old ∷ old ∷ [])))
 
--- Case A and after it, from place 109 on, an index without a hash table: its length; the version and its padding; C; L; F; B; N; A; the
--- augmentation; the unit; the strings; the entry offsets; the abbreviations; the pool. Both of its names are "de" and share a series.
+-- Case A and after it, from place 109 on, an index without a hash table: its length; the version and its
+-- padding; C; L; F; B; N; A; the augmentation; the unit; the strings; the entry offsets; the abbreviations;
+-- the pool. Both of its names are "de" and share a series.
 unfoldable pub two_indexes : List ℕ
 two_indexes =
     case_a ++

@@ -1,5 +1,5 @@
--- Document 02, No. 5, on a section: a query meets an entry with both attributes of units, demand 3 speaks of the record with the type unit, and the
--- two facts of the entry answer as they did.
+-- SPECIFICATION 12.6 on a section: a query meets an entry with both attributes of units, demand 3 speaks of
+-- the record with the type unit, and the two facts of the entry answer each by itself.
 use Rattle.std.specs.Prelude.{ℕ, ◌≡◌, List, [], ◌∷◌, ◌++◌, map, length, take, drop, Some, None}
 use Rattle.reader.specs.Outcome.{answered, refused}
 use Rattle.reader.specs.declared.endianity.RunTimeEndian.{RunTimeEndian}
@@ -15,9 +15,10 @@ use Rattle.demand3.specs.Demand3.{Each, AllOpen, CompleteOrNoTable}
 use Rattle.p_cases.specs.CaseA.{strings_a}
 use Rattle.p_cases.specs.Queries.{old, de}
 
--- An index without a hash table: its length; the version and its padding; C; L; F; B; N; A; the augmentation; the compile unit; the signature of the
--- foreign type unit; the string; the entry offset; the abbreviations; the pool. Its name is "de". The entry has type_unit 0, compile_unit 9, which
--- is not there, and DIE offset 5.
+-- An index without a hash table: its length; the version and its padding; C; L; F; B; N; A; the augmentation;
+-- the compile unit; the signature of the foreign type unit; the string; the entry offset; the abbreviations;
+-- the pool. Its name is "de". The entry has type_unit 0, compile_unit 9, which is not there, and DIE offset
+-- 5.
 unfoldable pub split_units : List ℕ
 split_units =
     68 ∷ 0 ∷ 0 ∷ 0
@@ -106,7 +107,8 @@ SplitListed =
     × (map answered new ≡ take 1 (expected RunTimeEndian.Little split_units strings_a 7 de open_split))
     × (split_record ∷ [] ≡ new ++ drop (length new) (old ∷ [])))
 
--- the facts themselves answer as gimli: that compile unit is refused at the start of its list, 36, and the type unit is the foreign one
+-- the facts themselves answer as gimli: that compile unit is refused at the start of its list, 36, and the
+-- type unit is the foreign one
 abbrev pub SplitFacts : Type 0
 SplitFacts =
     (entry_compile_unit RunTimeEndian.Little split_units split_index (record { 0 = 0 }) ≡ refused 1 36)

@@ -1,5 +1,6 @@
--- The listing as text: case A's, byte for byte as document 01 has it, that of an empty section, and that of a section which is refused; and the steps
--- that a program makes over an empty section, so that `TextListed`, which supposes such steps, speaks of a real case.
+-- The listing as text: case A's, byte for byte as SPECIFICATION 16.3 has it, that of an empty section, and
+-- that of a section which is refused; and the steps that a program makes over an empty section, so that
+-- `TextListed`, which supposes such steps, speaks of a real case.
 use Rattle.std.specs.Prelude.{◌≡◌, [], ◌∷◌, ◌++◌, Ok, Err, Some, None}
 use Rattle.reader.specs.declared.error.Error.{Error}
 use Rattle.listing.specs.declared.lines.Line.{Line}
@@ -26,7 +27,8 @@ TextOfNothing = section_text [] ≡ bytes "indexes 0\n"
 abbrev pub TextRefused : Type 0
 TextRefused = section_text (105 ∷ 0 ∷ 0 ∷ 0 ∷ []) ≡ bytes "refused 1\n"
 
--- the steps over an empty section, and over one that is refused: the line, or the refusal in its place, and nothing behind it
+-- the steps over an empty section, and over one that is refused: the line, or the refusal in its place, and
+-- nothing behind it
 abbrev pub nothing_behind : TextStep
 nothing_behind = record { text = None; cursor = ended_at first_line }
 

@@ -1,4 +1,4 @@
-// Prints the listing of a section to standard output (document 01, "Bytes to try"). Which bytes each line has is decided by `line_text` and
+// Prints the listing of a section to standard output (SPECIFICATION 13.4). Which bytes each line has is decided by `line_text` and
 // `listing_text`, and proved there; here they are printed.
 // What cannot be read or printed ends the program with the error.
 #![tactic(auto)]

@@ -1,5 +1,11 @@
--- The section query: SPECIFICATION 12. `s` is .debug_names and `strs` is .debug_str; `text` has the bytes of
--- the name that is asked for.
+-- The section query: `query`, for C `debug_names_query` (SPECIFICATION 12). `s` is .debug_names and `strs` is
+-- .debug_str; `hash` is the hash and `text` has the bytes of the name that is asked for; `lent` are the
+-- records that the query may write. It answers the total: how many entries there are in the series of the
+-- names that match, in all indexes of the section, an entry once for each such name. The total is always that
+-- of all entries, however many records are lent. At exit the lent records hold the first of the records
+-- found, as many as there is room for, in the order of index, name and series, and behind them what was
+-- there. The first refusal that is met refuses the query as a whole, and then no record is changed. gimli has
+-- no section query.
 use Rattle.std.specs.Prelude.{ℕ, List, [], ◌∷◌}
 use Rattle.reader.specs.declared.endianity.RunTimeEndian.{RunTimeEndian}
 use Rattle.records.specs.declared.record.Record.{Record}

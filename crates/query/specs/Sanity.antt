@@ -1,4 +1,5 @@
--- What a reader of the definitions may want to be sure of. The law of proofs/RefusalLaws.antt that has this type proves it.
+-- What a reader of the definitions may want to be sure of: a refused query changes no record
+-- (SPECIFICATION 2.5). The law of proofs/RefusalLaws.antt that has this type proves it.
 use Rattle.std.specs.Prelude.{ℕ, ◌≡◌, List, Err}
 use Rattle.reader.specs.Answers.{outcome}
 use Rattle.reader.specs.declared.endianity.RunTimeEndian.{RunTimeEndian}

@@ -1,4 +1,4 @@
-// The section query (document 01, "The section query"): where the function or type of a name is described, over all indexes of a section.
+// The section query (SPECIFICATION 12): where the function or type of a name is described, over all indexes of a section.
 //
 // `plan_query` decides what is answered and what there is to write; `query` writes it into the records that it is lent.
 // (order, section, strings, hash, name) stay parameters: with a struct that lends slices, contracts are no plainer (docs/DECISIONS.md).

@@ -1,4 +1,5 @@
--- What only the code needs: what single functions of it answer or leave. A reader of the other files need not know these.
+-- What only the code needs: what single functions of it answer or leave. A reader of the other files need not
+-- know these.
 use Rattle.std.specs.Prelude.{ℕ, ◌≡◌, List, [], ◌∷◌, ◌++◌, take, Option, Some, None, option_to_list, Result}
 use Rattle.reader.specs.Answers.{outcome}
 use Rattle.reader.specs.Listing.{items_of}

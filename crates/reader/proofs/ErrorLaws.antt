@@ -1,4 +1,4 @@
--- Refusals are told apart by document 01's number and value: no outcome drops what a refusal says.
+-- Refusals are told apart by the number and the value of SPECIFICATION 2.1: no outcome drops what a refusal says.
 use Prim.Native.Nat.{ℕ, ◌≤◌}
 use mathlib.Core.Path.{◌≡◌, refl, sym, ap₂, ◌∙◌}
 use mathlib.Core.Bool.{cond}
@@ -8,7 +8,7 @@ use Rattle.reader.specs.Errors.{number_of, value_of, longest}
 use Rattle.reader.specs.declared.error.Error.{Error}
 use Rattle.reader.specs.declared.error.Error.TheVariants.{UnexpectedEof, UnknownReservedLength, UnknownVersion, AbbreviationTagZero, AttributeNameZero, AttributeFormZero, BadUnsignedLeb128, InvalidAbbreviationCode, UnknownForm, NoEntryAtGivenOffset, InvalidNameAttributeIndex, UnsupportedAttributeForm, SectionTooLong, DoesNotFit}
 
--- a refusal, from document 01's number and value
+-- a refusal, from its number and its value
 unfoldable pub error_of : ℕ → ℕ → Error
 error_of n v =
     cond (eqb n 1) (UnexpectedEof v)

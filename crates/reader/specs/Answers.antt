@@ -1,5 +1,6 @@
--- The outcome that each answer of the code stands for. Equal outcomes of `outcome` mean equal answers: what is answered is taken as it is, and
--- refusals are told apart by number and value (`error_same`). Of `outcome_as` that holds as far as `shown` tells answers apart.
+-- The outcome that each answer of the code stands for (SPECIFICATION 1.5 and 2.1). Equal outcomes of
+-- `outcome` mean equal answers: what is answered is taken as it is, and refusals are told apart by number and
+-- value (`error_same`). Of `outcome_as` that holds as far as `shown` tells answers apart.
 use Rattle.std.specs.Prelude.{Result, Ok, Err}
 use Rattle.reader.specs.Outcome.{Outcome, answered}
 use Rattle.reader.specs.Errors.{refusal}

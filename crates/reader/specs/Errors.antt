@@ -1,4 +1,9 @@
--- Document 01, "Why a call says no": the number and the value of each refusal, and the limit of refusal 13.
+-- The number and the value of each refusal (SPECIFICATION 2.1), and the limit of refusal 13: a section of
+-- 2,147,483,647 bytes is taken, a longer one is not (SPECIFICATION 2.2). Refusal 1 carries a place, 2 a
+-- length, 3 a version, 8 a code, 9 and 12 a form, 10 an offset and 11 a number; the others carry none, and
+-- their value is 0.
+-- The names are gimli's, but for 13 and 14, which gimli does not have. Where refusal 1 carries a place, gimli
+-- has an address in the reader's memory.
 use Rattle.std.specs.Prelude.{ℕ, Bool}
 use Rattle.reader.specs.Outcome.{Outcome, refused, demand, refuse_if}
 use Rattle.reader.specs.declared.error.Error.{Error}

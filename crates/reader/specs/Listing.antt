@@ -1,4 +1,7 @@
--- What stands one after another in a part (declarations, entries, headers), as a list that also tells how it ended.
+-- What stands one after another in a part (declarations, entries, headers), as a list that also tells how it
+-- ended: behind its last item, or by a refusal with its number and value in the place of the item that is
+-- refused. Each item begins where the one before it ended, and nothing is looked at behind the end or the
+-- refusal (SPECIFICATION 8.3, 9.5 and 12.8).
 use Rattle.std.specs.Prelude.{ℕ, zero, suc, ◌+◌, ◌≤◌, ◌<◌, ◌≡◌, List, [], ◌∷◌}
 use Rattle.std.specs.Prelude.{Option, Some, None, Result, Ok, Err}
 use Rattle.reader.specs.Errors.{number_of, value_of}
@@ -8,7 +11,7 @@ use Rattle.reader.specs.Outcome.{Outcome, answered, refused, ◌>>=◌}
 pub data Listing (A : Type 0) : Type 0 where
   -- nothing more stands there
   ended : Listing A
-  -- what stands there is refused, with document 01's number and value
+  -- what stands there is refused, with the number and the value of SPECIFICATION 2.1
   broken : ℕ → ℕ → Listing A
   -- this, and what follows it
   item : A → Listing A → Listing A
@@ -19,23 +22,26 @@ listed (answered None) more = ended
 listed (answered (Some a)) more = item a (more a)
 listed (refused n v) more = broken n v
 
--- what `read` gives from the place `at` on, each item beginning where the last ended (`past`), up to the first none or refusal.
--- Given as many turns as bytes are left, it has turns enough (`listing_step`).
+-- what `read` gives from the place `at` on, each item beginning where the last ended (`past`), up to the
+-- first none or refusal. Given as many turns as bytes are left, it has turns enough (`listing_step`).
 unfoldable pub listing : {A : Type 0} → (ℕ → Outcome (Option A)) → (A → ℕ) → ℕ → ℕ → Listing A
 listing read past zero at = ended
 listing read past (suc turns) at = listed (read at) λ a. listing read past turns (past a)
 
--- a reading of what stands in a part up to `stop`: each item takes at least a byte and stays inside, and at the stop there is none
+-- a reading of what stands in a part up to `stop`: each item takes at least a byte and stays inside, and at
+-- the stop there is none
 pub record Advances {A : Type 0} (read : ℕ → Outcome (Option A)) (past : A → ℕ) (stop : ℕ) : Type 0 where
   pub forward : (at : ℕ) (a : A) → read at ≡ answered (Some a) → (at < past a) × (past a ≤ stop)
   pub none_at_stop : (at : ℕ) → stop ≤ at → read at ≡ answered None
 
--- where the outcome is answered, what follows from the answer; where it is refused, a list that is broken off at once
+-- where the outcome is answered, what follows from the answer; where it is refused, a list that is broken off
+-- at once
 abbrev pub or_broken : {A B : Type 0} → Outcome A → (A → Listing B) → Listing B
 or_broken (answered a) more = more a
 or_broken (refused n v) more = broken n v
 
--- the same of the code's own answers: after an item what follows from it, after none nothing, and a refusal breaks the list off
+-- the same of the code's own answers: after an item what follows from it, after none nothing, and a refusal
+-- breaks the list off
 abbrev pub left_by : {A B : Type 0} → Result (Option A) Error → (A → Listing B) → Listing B
 left_by (Ok (Some a)) more = more a
 left_by (Ok None) more = ended

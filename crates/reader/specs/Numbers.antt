@@ -1,4 +1,14 @@
--- Numbers of a fixed width in either byte order, words, and the initial length: document 01, "Bytes and numbers"; DWARF 5, 7.4.
+-- Numbers of a fixed width in either byte order, words, and the initial length (SPECIFICATION 3.2, 3.3 and
+-- 3.5; DWARF 5, 7.4). In little order the first byte of a number is the lowest, in big order the last. `s` is
+-- the section; a number is read at the place `at` of its part, which ends at `end`. Answered are a number of
+-- n bytes and the place past it; where fewer than n bytes are left, it is refused with 1 and the place `at`.
+-- A word has 4 bytes in the format Dwarf32 and 8 in Dwarf64.
+-- An initial length begins with a number of 4 bytes. Below 0xfffffff0 it is the length, and the format is
+-- Dwarf32. 0xffffffff is followed by the length in 8 bytes, and the format is Dwarf64. Any other number is
+-- reserved: it is refused with 2 and that number. Where the 4 bytes are not there, or the 8 that follow, it
+-- is refused with 1 and the place where these begin.
+-- gimli's reader has moved past the 4 bytes where the length is refused after them; here a refusal moves
+-- nothing.
 use Rattle.std.specs.Prelude.{ℕ, zero, suc, ◌+◌, ◌*◌, ◌%◌, ◌/◌, ◌<◌, List, [], ◌∷◌, reverse, cond, take, drop, ltb, eqb}
 use Rattle.std.proofs.Math.Seq.{slice}
 use Rattle.reader.specs.Outcome.{Outcome, answered, ◌>>=◌}
@@ -56,7 +66,8 @@ abbrev pub word_size : Format → ℕ
 word_size Dwarf32 = 4
 word_size Dwarf64 = 8
 
--- 7.4: a number of 4 bytes below 0xfffffff0 is the length; 0xffffffff is followed by the length in 8 bytes; the rest is reserved
+-- 7.4: a number of 4 bytes below 0xfffffff0 is the length; 0xffffffff is followed by the length in 8 bytes;
+-- the rest is reserved
 unfoldable pub initial_length : RunTimeEndian → List ℕ → ℕ → ℕ → Outcome InitialLength
 initial_length order s at end = do
   first ← read_number 4 order s at end

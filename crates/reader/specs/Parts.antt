@@ -1,6 +1,13 @@
--- Bytes of a part. A place (document 01's term) is a byte offset from the section's start. A part of the section `s` is given
--- by the place `end` where it ends; past the section's end there are no bytes. `slice at end s` of the library is the list of
--- the part's bytes from the place `at` on. Any numbers are legal places: where `at` lies past the end, the list is empty.
+-- Bytes of a part (SPECIFICATION 1.2 and 3.1). A place is a number of bytes from the section's start. A part
+-- of the section `s` is given by the place `end` where it ends; an end behind the section's end means the
+-- section's end. What is left of it at the place `at` are the bytes from there up to its end:
+-- `slice at end s` of the library. Any number is a legal place: where `at` lies at or behind the end, nothing
+-- is left.
+-- A skip of n bytes answers the place n further on. Where that lies behind the part's end, it is refused
+-- with 1 and the place `at`: a skip of 0 is answered at the end of a part, and refused behind it. A part of n
+-- bytes is cut out at `at`, or refused as that skip is.
+-- gimli's reader is a position that moves. Here a reading takes a place and answers the next one, so that a
+-- refusal moves nothing; and places and ends behind the section's end are legal, which gimli cannot express.
 use Rattle.std.specs.Prelude.{ℕ, ◌+◌, ◌-◌, ◌<◌, ◌≤◌, min, List, cond, length, leb}
 use Rattle.reader.specs.Outcome.{Outcome, answered, ◌>>=◌}
 use Rattle.reader.specs.declared.reader.Part.{Part}

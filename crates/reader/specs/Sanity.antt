@@ -1,5 +1,6 @@
--- What a reader of the definitions may want to be sure of. The laws of proofs/ that have these types prove them:
--- NumberLaws.antt and PartLaws.antt.
+-- What a reader of the definitions may want to be sure of: numbers are read back and are below their width; a
+-- reading moves forward and looks at no byte outside its part; a part that is cut out lies inside
+-- (SPECIFICATION 3). The laws of proofs/ that have these types prove them: NumberLaws.antt and PartLaws.antt.
 use Rattle.std.specs.Prelude.{ℕ, ◌+◌, ◌^◌, ◌≤◌, ◌<◌, ◌≡◌, List, ◌++◌, length}
 use Rattle.std.proofs.Math.Seq.{slice}
 use Rattle.reader.specs.Outcome.{answered}
@@ -10,7 +11,8 @@ use Rattle.reader.specs.declared.reader.InitialLength.{InitialLength}
 use Rattle.reader.specs.declared.reader.Part.{Part}
 use Rattle.reader.specs.declared.endianity.RunTimeEndian.{RunTimeEndian}
 
--- `bytes_of` and `spelled` are inverse: a number that fits has bytes that spell it, and bytes are those of what they spell
+-- `bytes_of` and `spelled` are inverse: a number that fits has bytes that spell it, and bytes are those of
+-- what they spell
 abbrev pub BytesSpell : Type 0
 BytesSpell = (order : RunTimeEndian) (n v : ℕ) → v < 256 ^ n → spelled order (bytes_of order n v) ≡ v
 

@@ -1,4 +1,10 @@
--- Steps of a cursor: document 01, "Each step takes a cursor and hands back the cursor after it".
+-- Steps of a cursor (SPECIFICATION 1.6 and 2.6). A step takes a cursor and answers the next thing of a list,
+-- the end (none), or a refusal; in each case it hands back the cursor after it. Where it is refused with 13
+-- or 14, that is the cursor that it was given (but in a listing, SPECIFICATION 13.3).
+-- Steps are linked if the first is given a cursor `c`, and each next one the cursor that the step before it
+-- handed back (SPECIFICATION 14.3). Their answers list what is expected, in order, if those up to the first
+-- end are its beginning, without a gap, and the first end is the first step before which all of it is
+-- answered (SPECIFICATION 14.4).
 use Rattle.std.specs.Prelude.{◌≡◌, List, [], ◌∷◌, length, map, take, ltb, Bool, true, false, Option, Some, None, Result}
 use Rattle.reader.specs.Outcome.{Outcome, answered, refused}
 use Rattle.reader.specs.Answers.{outcome}
@@ -23,8 +29,8 @@ step_of answer cursor = record { answer = outcome answer; cursor = cursor }
 abbrev pub Taken : Type 0 → Type 0 → Type 0
 Taken A C = Given A C
 
--- A list of steps of the code that are linked: each is what the step says of a cursor, the first of the cursor c, and each next of the
--- cursor that the one before it left.
+-- A list of steps of the code that are linked: each is what the step says of a cursor, the first of the
+-- cursor c, and each next of the cursor that the one before it left.
 pub data Linked {A C : Type 0} (step : C → Step A C) : C → List (Taken A C) → Type 0 where
   no_steps : {c : C} → Linked step c []
   step_then : {c : C} {t : Taken A C} {ts : List (Taken A C)} → step_of t.answer t.cursor ≡ step c → Linked step t.cursor ts → Linked step c (t ∷ ts)
@@ -47,8 +53,9 @@ up_to_end (answered None ∷ os) = []
 up_to_end (answered (Some a) ∷ os) = answered (Some a) ∷ up_to_end os
 up_to_end (refused n v ∷ os) = refused n v ∷ up_to_end os
 
--- Demand 3, of the answers of a list of steps and what their lookup has to list. The answers up to the first end are its beginning, in
--- order and without a gap: as many as there are steps, or all of it. And the first end is the first step before which all of it is
--- answered: there is an end exactly if there are more steps than it has elements.
+-- Demand 3, of the answers of a list of steps and what their lookup has to list. The answers up to the first
+-- end are its beginning, in order and without a gap: as many as there are steps, or all of it. And the first
+-- end is the first step before which all of it is answered: there is an end exactly if there are more steps
+-- than it has elements.
 abbrev pub ListsInOrder : {A : Type 0} → List (Outcome (Option A)) → List (Outcome (Option A)) → Type 0
 ListsInOrder answers expected = (up_to_end answers ≡ take (length answers) expected) × (has_end answers ≡ ltb (length expected) (length answers))

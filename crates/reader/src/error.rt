@@ -1,11 +1,11 @@
-// Why a call says no: document 01's refusals 1 to 14, as gimli's `Error` with gimli's variant names, and two more.
-// `number_of` and `value_of` of specs/Errors.antt give document 01's number and value for each.
+// Why a call says no: the refusals 1 to 14 (SPECIFICATION 2.1), as gimli's `Error` with gimli's variant names; 13 and 14 are added.
+// `number_of` and `value_of` of specs/Errors.antt give the number and the value of each.
 ghost use Rattle.std.specs.Prelude.{◌≡◌, length, ltb};
 ghost use Rattle.reader.specs.Errors.{number_of, value_of, longest};
 
 use crate::common::NameEntryOffset;
 
-// A refusal (document 01's term), with the one value that it carries.
+// A refusal (SPECIFICATION 2), with the one value that it carries.
 #[derive(Clone, Copy)]
 pub enum Error {
     // 1. A read or skip past the end of its part, with the place where it began (in a LEB128 number, of the missing byte).
@@ -39,7 +39,7 @@ pub enum Error {
 }
 
 impl Error {
-    // Document 01's number of the refusal, 1 to 14.
+    // The number of the refusal, 1 to 14 (SPECIFICATION 2.1).
     pub fn number(self) -> u8
         ensures { result ≡ number_of self }
     {

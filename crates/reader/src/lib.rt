@@ -1,7 +1,7 @@
 // The lowest layer of the .debug_names reader: bytes into numbers, in either byte order, with numbered refusals. It keeps
-// document 01, "Why a call says no" and "Bytes and numbers" without LEB128 (DWARF 5, section 7.4). Names are gimli's.
+// SPECIFICATION 2 and 3 (DWARF 5, 7.4). Names are gimli's.
 //
-// A section is read at a place, in a part. A place (document 01's term) is a byte offset from the section's start. A part
+// A section is read at a place, in a part. A place (SPECIFICATION 1.2) is a byte offset from the section's start. A part
 // is given by the place where it ends, `end`; what lies past the section's own end belongs to no part. Any numbers are
 // legal arguments: a call answers or refuses, and each answer, refusals included, equals a definition of specs/.
 #![tactic(auto)]

@@ -1,5 +1,5 @@
 // Numbers of a fixed width at a place of a part, words, the initial length, and passing over bytes (gimli's read/reader.rs and
-// read/endian_slice.rs; document 01, "Bytes and numbers"; DWARF 5, section 7.4).
+// read/endian_slice.rs; SPECIFICATION 3; DWARF 5, 7.4).
 //
 // A read or skip past the end of its part is `UnexpectedEof` with the place that was given to it.
 // (s, at, end) stay parameters: with a struct of s and end, as was tried, contracts are no plainer (docs/DECISIONS.md).

@@ -45,7 +45,7 @@ fn answer(rt: &impl Print, case: Case, s: &[u8]) -> io::Result<()> {
     }
 }
 
-// The refusal of document 01's number and value.
+// The refusal with this number and this value (SPECIFICATION 2.1).
 fn error_of(number: u64, value: u64) -> Error {
     match number {
         1 => Error::UnexpectedEof(value as usize),

@@ -1,4 +1,4 @@
--- Laws of the choice of a unit: what decides it, and where it is document 01's.
+-- Laws of the choice of a unit: what decides it, and where the order of the two attributes makes no difference.
 use Prim.Native.Nat.{ℕ}
 use mathlib.Core.Path.{◌≡◌, refl, sym}
 use mathlib.Core.Bool.{Bool, true, false, false≢true, ◌&&◌}

@@ -1,4 +1,9 @@
--- The record of an entry: document 01, "The section query". It is where the entry stands, and what is shown of it.
+-- The record of an entry (SPECIFICATION 12.5): where it stands, and what is shown of it. `s` is the section,
+-- `p` has the opened index with the places of its parts, `w` tells where the entry stands, and `f` has the
+-- first attribute of each name. The record has the place of the index's header, the entry's handle, the
+-- number of the name, the tag, the unit by kind and value, and the DIE offset, which is 0, with the flag 0,
+-- if the entry has no die_offset attribute. The unit is found first (SPECIFICATION 12.6), then the DIE offset
+-- (SPECIFICATION 9.8); the first of them that is refused refuses the record.
 use Rattle.std.specs.Prelude.{ℕ, Option, Some, None}
 use Rattle.reader.specs.Outcome.{Outcome, answered, ◌>>=◌}
 use Rattle.reader.specs.declared.endianity.RunTimeEndian.{RunTimeEndian}
@@ -11,7 +16,8 @@ use Rattle.records.specs.Units.{entry_unit}
 use Rattle.reader.specs.declared.common.UnitOffset.{UnitOffset}
 use Rattle.reader.specs.Parts.{Section}
 
--- where an entry stands: the place of its index in the section, the number of the name, and its offset in the pool
+-- where an entry stands: the place of its index in the section, the number of the name, and its offset in the
+-- pool
 pub record Where : Type 0 where
   pub index : ℕ
   pub name : ℕ

@@ -1,4 +1,6 @@
--- What a reader of the choice of a unit may want to be sure of: document 02, No. 5. The laws of proofs/UnitLaws.antt that have these types
+-- What a reader of the choice of a unit may want to be sure of (SPECIFICATION 12.6): a type_unit attribute
+-- decides; a compile_unit attribute beside it is not resolved; which of the two comes first makes a
+-- difference only where both stand; and examples. The laws of proofs/UnitLaws.antt that have these types
 -- prove them.
 use Rattle.std.specs.Prelude.{ℕ, ◌≡◌, true, false, ◌&&◌, ◌⊎◌, List, [], ◌∷◌, Option, Some, None}
 use Rattle.reader.specs.Outcome.{Outcome, answered, refused}
@@ -22,34 +24,35 @@ AsTypeUnit fact unit =
     ((u : NameTypeUnit) × (fact ≡ answered (Some u)) × (unit ≡ answered (of_type_unit u)))
     ⊎ ((n v : ℕ) × (fact ≡ refused n v) × (unit ≡ refused n v))
 
--- Where a type_unit attribute stands, it decides, and nothing stands in for its unit. `StandsExactly` of `attributes` says that an attribute
--- stands exactly if the entry has it, in any form.
+-- Where a type_unit attribute stands, it decides, and nothing stands in for its unit. `StandsExactly` of
+-- `attributes` says that an attribute stands exactly if the entry has it, in any form.
 abbrev pub TypeUnitDecides : Type 0
 TypeUnitDecides =
     (order : RunTimeEndian) (s : List ℕ) (p : Parts) (f : Facts) → stands f.type_unit ≡ true
     → AsTypeUnit (type_unit_of order s p f.type_unit) (entry_unit order s p f)
 
--- Where it stands, the compile_unit attribute is not resolved: with any other one, or none, the unit is the same, and so is the refusal.
+-- Where it stands, the compile_unit attribute is not resolved: with any other one, or none, the unit is the
+-- same, and so is the refusal.
 abbrev pub OtherNotResolved : Type 0
 OtherNotResolved =
     (order : RunTimeEndian) (s : List ℕ) (p : Parts) (f g : Facts) → stands f.type_unit ≡ true → f.type_unit ≡ g.type_unit
     → entry_unit order s p f ≡ entry_unit order s p g
 
--- document 01's choice: the compile_unit attribute first
+-- the choice in the other order: the compile_unit attribute first
 unfoldable pub compile_unit_first : RunTimeEndian → List ℕ → Parts → Facts → Outcome ShownUnit
 compile_unit_first order s p f =
     compile_shown order s p f.compile_unit
     orNext type_shown order s p f.type_unit
     orNext default_shown order s p
 
--- where one of the two attributes stands, or none, the unit is that of document 01
+-- where one of the two attributes stands, or none, the unit is the same in either order
 abbrev pub OneUnitAsBefore : Type 0
 OneUnitAsBefore =
     (order : RunTimeEndian) (s : List ℕ) (p : Parts) (f : Facts) → stands f.type_unit && stands f.compile_unit ≡ false
     → entry_unit order s p f ≡ compile_unit_first order s p f
 
--- Computed. The lists of an index, which end at 20: the compile units 0x100 and 0x200; from 8 on the local type unit 0x300; from 12 on the foreign
--- one, 0x0102030405060708. With C 2 they begin at 0, with C 1 at 4.
+-- Computed. The lists of an index, which end at 20: the compile units 0x100 and 0x200; from 8 on the local
+-- type unit 0x300; from 12 on the foreign one, 0x0102030405060708. With C 2 they begin at 0, with C 1 at 4.
 abbrev pub lists : List ℕ
 lists =
     0x00 ∷ 0x01 ∷ 0 ∷ 0 ∷ 0x00 ∷ 0x02 ∷ 0 ∷ 0
@@ -70,7 +73,8 @@ lists_from begin compile = record {
   end = 20;
 }
 
--- a unit's number in the form udata, and two attributes of wrong forms: a number in the form ref_udata, and a flag
+-- a unit's number in the form udata, and two attributes of wrong forms: a number in the form ref_udata, and a
+-- flag
 abbrev pub numbered : ℕ → Option FirstAttribute
 numbered n = Some (record { form = 0x0f; value = NameAttributeValue.Unsigned n })
 
@@ -96,9 +100,10 @@ of_two = unit_among (lists_from 0 2)
 abbrev pub of_one : Option FirstAttribute → Option FirstAttribute → Outcome ShownUnit
 of_one = unit_among (lists_from 4 1)
 
--- With C 2. Both attributes: the local type unit; the foreign one; the same with a compile unit that is not there (two numbers), with one of more
--- than 32 bits, and with two of a wrong form. Then type units that are refused beside a compile unit that is there: not there, at the end and at
--- the start of the list of foreign ones; of more than 32 bits; and of a wrong form. Then a type unit alone, a compile unit alone, and neither.
+-- With C 2. Both attributes: the local type unit; the foreign one; the same with a compile unit that is not
+-- there (two numbers), with one of more than 32 bits, and with two of a wrong form. Then type units that are
+-- refused beside a compile unit that is there: not there, at the end and at the start of the list of foreign
+-- ones; of more than 32 bits; and of a wrong form. Then a type unit alone, a compile unit alone, and neither.
 -- With C 1: both, a compile unit that is not there, and neither, where the only compile unit is the default.
 abbrev pub UnitsComputed : Type 0
 UnitsComputed =
@@ -141,7 +146,8 @@ UnitsComputed =
     ∷ answered (unit_of 1 0x200)
     ∷ []
 
--- what the statements suppose holds of such attributes: of those that stand, in a right form and in wrong ones; and of one of two, and of none
+-- what the statements suppose holds of such attributes: of those that stand, in a right form and in wrong
+-- ones; and of one of two, and of none
 abbrev pub UnitsSuppose : Type 0
 UnitsSuppose =
     (stands (numbered 1) ≡ true)

@@ -1,5 +1,10 @@
--- The unit that is shown of an entry: document 01, "The section query", with document 02, No. 5. `s` is the section, and `f` has the first
--- attribute of each name.
+-- The unit that is shown of an entry (SPECIFICATION 12.6). `s` is the section, `p` has the opened index with
+-- the places of its parts, and `f` the first attribute of each name. If the entry has a type_unit attribute,
+-- in any form, its type unit is shown, or the record is refused as that is (with 12, 11 or 1): nothing stands
+-- in for it, and a compile_unit attribute beside it is not resolved. Else, if it has a compile_unit
+-- attribute, that compile unit, or its refusal. Else the default compile unit of the index. Else no unit.
+-- Kind 1 is a compile unit and 2 a local type unit, each with its offset in .debug_info; 3 is a foreign type
+-- unit, with its signature; 0 is no unit, with the value 0.
 use Rattle.std.specs.Prelude.{ℕ}
 use Rattle.std.specs.Prelude.{Option, Some, None}
 use Rattle.reader.specs.Outcome.{Outcome, answered, refused, ◌>>=◌}
@@ -14,7 +19,8 @@ use Rattle.records.specs.declared.unit.ShownUnit.{ShownUnit}
 use Rattle.reader.specs.declared.common.DebugInfoOffset.{DebugInfoOffset}
 use Rattle.reader.specs.Parts.{Section}
 
--- a compile unit is kind 1, a local type unit 2, a foreign one, by its signature, 3; no unit is kind 0 with the value 0
+-- a compile unit is kind 1, a local type unit 2, a foreign one, by its signature, 3; no unit is kind 0 with
+-- the value 0
 abbrev pub unit_of : ℕ → ℕ → ShownUnit
 unit_of kind value = record { kind = kind; value = value }
 
@@ -43,7 +49,8 @@ abbrev pub ◌orNext◌ : Outcome (Option ShownUnit) → Outcome ShownUnit → O
 
 -- a section, in its byte order, and an index of it whose parts are `p`
 module _ (order : RunTimeEndian) (s : Section) where
-  -- the unit that the type_unit attribute names, and the one that the compile_unit attribute names; none where the entry has no such attribute
+  -- the unit that the type_unit attribute names, and the one that the compile_unit attribute names; none
+  -- where the entry has no such attribute
   unfoldable pub type_shown : Parts → Option FirstAttribute → Outcome (Option ShownUnit)
   type_shown p a = do
     u ← type_unit_of order s p a
@@ -60,7 +67,8 @@ module _ (order : RunTimeEndian) (s : Section) where
     u ← default_compile_unit_in order s p
     answered (as_default_unit u)
 
-  -- the unit: of the type_unit attribute, to whose unit the DIE belongs, else of the compile_unit attribute, else the default compile unit, else none
+  -- the unit: of the type_unit attribute, to whose unit the DIE belongs, else of the compile_unit attribute,
+  -- else the default compile unit, else none
   unfoldable pub entry_unit : Parts → Facts → Outcome ShownUnit
   entry_unit p f =
       type_shown p f.type_unit

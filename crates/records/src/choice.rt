@@ -1,7 +1,7 @@
 // The choice of the unit that is shown of an entry: that of its type_unit attribute, else that of its compile_unit attribute, else the
 // default compile unit of the index, else none.
 //
-// An entry of a split build may have both attributes (document 02, No. 5): its DIE belongs to the type unit, and the compile unit only tells
+// An entry of a split build may have both attributes (SPECIFICATION 12.6): its DIE belongs to the type unit, and the compile unit only tells
 // which split file to load. That one is then not resolved, and so not refused.
 // (order, section, p) stay parameters: with a struct that lends the section, contracts are no plainer (docs/DECISIONS.md).
 ghost use Rattle.std.specs.Prelude.{◌≡◌};

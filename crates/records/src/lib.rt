@@ -1,4 +1,4 @@
-// What the section query shows of an entry (document 01, "The section query", and document 02, No. 5): a record of where the entry stands, its
+// What the section query shows of an entry (SPECIFICATION 12.5 and 12.6): a record of where the entry stands, its
 // tag, its unit and its DIE offset.
 //
 // The unit is chosen by `entry_unit` and nowhere else.

@@ -1,4 +1,5 @@
--- What only the code needs: what single functions of it answer or leave. A reader of the other files need not know these.
+-- What only the code needs: what single functions of it answer or leave. A reader of the other files need not
+-- know these.
 use Rattle.std.specs.Prelude.{ℕ, ◌<◌, ◌≤◌, List, length, Option, Some, None, Result, Ok, Err}
 use Rattle.reader.specs.Listing.{Listing, followed_by}
 use Rattle.reader.specs.Parts.{Section}

@@ -1,5 +1,8 @@
--- The records of a section: document 01, "The section query". `s` is .debug_names and `strs` is .debug_str; `text` has the bytes of the name
--- that is asked for.
+-- The records of a section (SPECIFICATION 12.2). `s` is .debug_names and `strs` is .debug_str; `hash` is the
+-- hash and `text` has the bytes of the name that is asked for. 13 is tested first, for .debug_names and then
+-- for .debug_str. Then come the headers from place 0 on: each index is opened, and all its records are found,
+-- before the header behind it is read. The first refusal that is met, of a header, of an opening or in an
+-- index, breaks the list off.
 use Rattle.std.specs.Prelude.{ℕ, List, length, ltb}
 use Rattle.reader.specs.declared.error.Error.TheVariants.{SectionTooLong}
 use Rattle.reader.specs.Errors.{longest, fail_if}

@@ -1,4 +1,4 @@
-// The records of a section, one after another (document 01, "The section query"): those of its indexes in order, each index finished before
+// The records of a section, one after another (SPECIFICATION 12.2): those of its indexes in order, each index finished before
 // the next header. The step over them decides everything that a query answers.
 // (order, section, strings, hash, name) stay parameters: with a struct that lends slices, contracts are no plainer (docs/DECISIONS.md).
 #![tactic(auto)]

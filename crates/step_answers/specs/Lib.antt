@@ -1,2 +1,3 @@
--- Steps: headers, strings, the lookups over buckets and hashes with their steps, and the table check, as they are handed over.
+-- Steps: headers, strings, the lookups over buckets and hashes with their steps, and the table check, as they
+-- are handed over.
 pub mod Steps

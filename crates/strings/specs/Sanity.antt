@@ -1,4 +1,5 @@
--- What a reader of the definitions may want to be sure of. The law of proofs/StringLaws.antt that has this type proves it.
+-- What a reader of the definitions may want to be sure of: where a string ends (SPECIFICATION 7.7). The law
+-- of proofs/StringLaws.antt that has this type proves it.
 use Rattle.std.specs.Prelude.{ℕ, ◌≡◌, List, drop}
 use Rattle.reader.specs.Outcome.{answered}
 use Rattle.strings.specs.declared.Str.{Str}

@@ -1,4 +1,10 @@
--- .debug_str: document 01, "Strings".
+-- The strings of .debug_str (SPECIFICATION 7.7). `s` is here .debug_str, and places are counted from its
+-- start. Tested in this order: refused with 13 where `s` is too long; with 1 at place 0 where the offset lies
+-- behind its end; with 1 at the offset where no zero byte stands there or behind it, as at the very end. Else
+-- the string begins at the offset, and its length is the number of bytes before the first zero byte, which
+-- does not count.
+-- gimli's `get_str` gives the bytes themselves. Here one call answers where the string stands, or the
+-- refusal, and another gives its bytes, none where the first refuses.
 use Rattle.std.specs.Prelude.{ℕ, ◌+◌, List, [], ◌∷◌, cond, length, take, drop, ltb, eqb}
 use Rattle.reader.specs.Outcome.{Outcome, answered, refused, ◌>>=◌, ◌>>◌}
 use Rattle.reader.specs.declared.error.Error.TheVariants.{SectionTooLong, UnexpectedEof}
@@ -15,7 +21,8 @@ before_zero (b ∷ bs) = cond (eqb b 0) [] (b ∷ before_zero bs)
 unfoldable pub zero_from : List ℕ → ℕ → ℕ
 zero_from s start = start + length (before_zero (drop start s))
 
--- the string at an offset: up to the first zero byte; refusal 1 at its start where there is none, and at 0 where the offset lies past the end
+-- the string at an offset: up to the first zero byte; refusal 1 at its start where there is none, and at 0
+-- where the offset lies past the end
 unfoldable pub get_str : List ℕ → ℕ → Outcome Str
 get_str s offset = do
   fail_if (ltb longest (length s)) SectionTooLong

@@ -1,4 +1,4 @@
-// The strings of .debug_str (gimli's read/str.rs; document 01, "Strings"): where the string at an offset stands, and its bytes.
+// The strings of .debug_str (gimli's read/str.rs; SPECIFICATION 7.7): where the string at an offset stands, and its bytes.
 #![tactic(auto)]
 
 ghost use Rattle.std.specs.Prelude.{◌≡◌, ◌==◌, position};

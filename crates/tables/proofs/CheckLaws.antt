@@ -1,5 +1,5 @@
--- Laws of the check: the starts, asked of a range of buckets; the missed names, all of them and one at a time; the verdict; that it tells what document
--- 01's does; and what the two loops go by.
+-- Laws of the check: the starts, asked of a range of buckets; the missed names, all of them and one at a time; the verdict; that it tells
+-- what the check without a name and a hash does; and what the two loops go by.
 use Prim.Native.Nat.{ℕ, zero, suc, ◌+◌, ◌-◌, ◌≤◌, ◌<◌}
 use mathlib.Core.Path.{◌≡◌, refl, sym, ap, ◌∙◌}
 use mathlib.Core.Bool.{Bool, true, false, not, cond, ◌||◌}
@@ -24,7 +24,7 @@ use Rattle.reader.proofs.ListLaws.{false_true, numbers_length, filter-length, fi
 use Rattle.hashes.proofs.TableLaws.{bucket-below}
 use Rattle.tables.specs.declared.Segment.{Segment}
 use Rattle.tables.specs.declared.Count.{Count}
-use Rattle.tables.specs.Segments.{no_segment, followed, segment_before, first_or, reached_by, one_more}
+use Rattle.tables.specs.Segments.{no_segment, followed, segment_before, first_of, reached_by, one_more}
 use Rattle.tables.proofs.SegmentLaws.{before-all, before_suc, followed-bucket, reached_member}
 use Rattle.tables.specs.Sanity.{Told, no_hash_table, told_by, told_of, told_before, ToldAsBefore, MissedExactly}
 use Rattle.tables.specs.declared.TableCheck.{TableCheck}
@@ -140,7 +140,7 @@ unfolding verdict
 verdict-table hash_of [] e = no_table_complete (sym e)
 verdict-table hash_of (name ∷ more) e = let z : ◌≡◌ {A = ℕ} 0 1 = cc in omega arith
 
--- the verdict tells how many these names are, and so the check tells what document 01's does
+-- the verdict tells how many these names are, and so the check tells what the one without a name and a hash does
 verdict-told : (hash_of : ℕ → ℕ) (names : List ℕ) → told_by (verdict hash_of names) ≡ told_of (length names)
 unfolding verdict
 verdict-told hash_of [] = refl
@@ -271,11 +271,11 @@ module _ (order : RunTimeEndian) (s : List ℕ) (i : NameIndex) where
       of_kept (first ∷ more) e some = let (above, below, holds, none) = filter-first (is_missed order s i) 0 name first more e in omega arith
 
   -- up to the first missed name none is missed
-  pub kept_first : (first_or i.name_count (missed_names order s i) ≤ i.name_count) × (kept_before (first_or i.name_count (missed_names order s i)) ≡ record { missed = 0; least = 0 })
-  unfolding first_or kept_before kept
+  pub kept_first : (first_of i.name_count (missed_names order s i) ≤ i.name_count) × (kept_before (first_of i.name_count (missed_names order s i)) ≡ record { missed = 0; least = 0 })
+  unfolding first_of kept_before kept
   kept_first = of_names (missed_names order s i) refl
     where
-      of_names : (names : List ℕ) → missed_names order s i ≡ names → (first_or i.name_count names ≤ i.name_count) × (kept (missed_below order s i (first_or i.name_count names)) ≡ record { missed = 0; least = 0 })
+      of_names : (names : List ℕ) → missed_names order s i ≡ names → (first_of i.name_count names ≤ i.name_count) × (kept (missed_below order s i (first_of i.name_count names)) ≡ record { missed = 0; least = 0 })
       of_names [] e = (omega arith, rw (missed_all order s i ∙ e))
       of_names (first ∷ more) e = let (within, nothing) = none_below order s i first more e in (within, rw nothing)
 

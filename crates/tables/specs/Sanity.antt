@@ -1,5 +1,6 @@
--- What is proved of the missed names and of the table check's answers: document 02, No. 2. The laws `missed_exactly` and `told_as_before` of
--- proofs/CheckLaws.antt and those of proofs/LostLaws.antt prove it.
+-- What is proved of the missed names and of the table check's answers: which names are missed, which of them
+-- an answer names, and that a lookup does not list that one (SPECIFICATION 11.1). The laws `missed_exactly`
+-- and `told_as_before` of proofs/CheckLaws.antt and those of proofs/LostLaws.antt prove it.
 use Rattle.std.specs.Prelude.{ℕ, ◌≤◌, ◌<◌, ◌≡◌, true, false, cond, ◌↔◌, ◌⊎◌, List, length, eqb, Ok, Err, Result}
 use Rattle.reader.specs.Outcome.{Outcome, answered, ◌>>=◌, ◌>>◌, refuse_if}
 use Rattle.reader.specs.Lists.{memberb}
@@ -18,14 +19,15 @@ use Rattle.tables.specs.Check.{any_above, missed_names, table_check}
 use Rattle.reader.specs.Answers.{outcome}
 use Rattle.reader.specs.declared.common.NameTableIndex.{NameTableIndex}
 
--- The missed names are the names of the index that the run of their own bucket does not reach, and no other number. That each stands once is plain
--- from the definition: they are picked from 0, 1 and on, below N.
+-- The missed names are the names of the index that the run of their own bucket does not reach, and no other
+-- number. That each stands once is plain from the definition: they are picked from 0, 1 and on, below N.
 abbrev pub MissedExactly : Type 0
 MissedExactly =
     (order : RunTimeEndian) (s : List ℕ) (i : NameIndex) (name : ℕ)
     → (memberb name (missed_names order s i) ≡ true) ↔ ((name < i.name_count) × (memberb name (run order s i (bucket_of i (stored_hash order s (parts i) name))) ≡ false))
 
--- What document 01's check tells: that there is no hash table, that it is complete, or how many names are missed.
+-- What the check tells without the name and the hash: that there is no hash table, that it is complete, or
+-- how many names are missed.
 pub data Told : Type 0 where
   no_hash_table : Told
   all-reached : Told
@@ -36,7 +38,7 @@ told_by TableCheck.NoTable = no_hash_table
 told_by TableCheck.Complete = all-reached
 told_by (TableCheck.Incomplete lost) = missing lost.missed
 
--- document 01's check, in the order of its words: complete if 0 names are missed
+-- a check that tells no more, in the order of SPECIFICATION 11.1: complete if 0 names are missed
 abbrev pub told_of : ℕ → Told
 told_of missed = cond (eqb missed 0) all-reached (missing missed)
 
@@ -49,8 +51,8 @@ told_before order s i = do
         refuse_if (any_above i.name_count (stored_start order s p) i.bucket_count) 1 p.hash_table_data
         answered (told_of (length (missed_names order s i))))
 
--- Document 02 adds the name and the hash to an incomplete answer, and changes nothing else: no table, complete, the number of missed names and every
--- refusal are document 01's.
+-- The name and the hash are added to an incomplete answer, and nothing else is changed: no table, complete,
+-- the number of missed names and every refusal are those of the check that tells no more.
 abbrev pub ToldAsBefore : Type 0
 ToldAsBefore = (order : RunTimeEndian) (s : List ℕ) (i : NameIndex) → (table_check order s i >>= λ checked. answered (told_by checked)) ≡ told_before order s i
 
@@ -61,8 +63,8 @@ MissedTold =
     → 0 < i.bucket_count → memberb name (missed_names order s i) ≡ true → outcome r ≡ table_check order s i
     → ((lost : Incomplete) × (r ≡ Ok (TableCheck.Incomplete lost))) ⊎ ((e : Error) × (r ≡ Err e))
 
--- Where it says incomplete: `missed` is how many names are missed; `name` is one of them, and none of them has a smaller number; and
--- `hash` is the one that is stored for it.
+-- Where it says incomplete: `missed` is how many names are missed; `name` is one of them, and none of them
+-- has a smaller number; and `hash` is the one that is stored for it.
 abbrev pub LostLeast : Type 0
 LostLeast =
     (order : RunTimeEndian) (s : List ℕ) (i : NameIndex) (lost : Incomplete) → outcome (Ok (TableCheck.Incomplete lost)) ≡ table_check order s i
@@ -71,8 +73,9 @@ LostLeast =
     × ((name : ℕ) → memberb name (missed_names order s i) ≡ true → lost.name.0 ≤ name)
     × (lost.hash ≡ stored_hash order s (parts i) lost.name.0)
 
--- The lookup of a hash lists names, but not this one: `find_by_hash` gives a cursor; linked steps of the code lead from it to an end; and
--- whatever linked steps reach an end, their answers up to the first end are names, and this one is not among them.
+-- The lookup of a hash lists names, but not this one: `find_by_hash` gives a cursor; linked steps of the code
+-- lead from it to an end; and whatever linked steps reach an end, their answers up to the first end are
+-- names, and this one is not among them.
 abbrev pub ListsWithout : RunTimeEndian → List ℕ → NameIndex → ℕ → ℕ → Type 0
 ListsWithout order s i hash name =
     (c : NameHashIter)
@@ -81,8 +84,8 @@ ListsWithout order s i hash name =
     × ((steps : List (Taken NameTableIndex NameHashIter)) → Linked (hash_step order s i) c steps → has_end (hash_answers steps) ≡ true
     → (names : List ℕ) × (up_to_end (hash_answers steps) ≡ hash_names names) × (memberb name names ≡ false))
 
--- So a lookup that stops at the first end does not find the name: it is one of all names that store the hash, and the lookup of the hash lists names
--- without it.
+-- So a lookup that stops at the first end does not find the name: it is one of all names that store the hash,
+-- and the lookup of the hash lists names without it.
 abbrev pub LostNotListed : Type 0
 LostNotListed =
     (order : RunTimeEndian) (s : List ℕ) (i : NameIndex) (lost : Incomplete) → outcome (Ok (TableCheck.Incomplete lost)) ≡ table_check order s i

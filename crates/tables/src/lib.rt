@@ -1,5 +1,5 @@
-// Whether the hash table of an index reaches every name, and which is the first that it loses (document 01, "Buckets and hashes": the table check,
-// which gimli does not have; document 02, No. 2).
+// Whether the hash table of an index reaches every name, and which is the first that it loses (SPECIFICATION 11: the table check, which gimli
+// does not have).
 //
 // A name is missed if the run of its own bucket does not reach it: a lookup by its hash then does not list it. The names are passed once,
 // in segments: a segment is a longest row of names that follow one another in one bucket. The run of a bucket goes no further than its first
@@ -13,7 +13,7 @@ ghost use Rattle.reader.specs.Outcome.{answered};
 ghost use Rattle.index.specs.Layout.{parts, fitted};
 ghost use Rattle.hashes.specs.Table.{nth_of, stored_hash};
 ghost use Rattle.tables.specs.Check.{any_above, missed_names, table_check};
-ghost use Rattle.tables.specs.Segments.{no_segment, followed, reached_by, walked_to, first_or, counted_at};
+ghost use Rattle.tables.specs.Segments.{no_segment, followed, reached_by, walked_to, first_of, counted_at};
 
 use hashes::{bucket_of, nth_u32};
 use index::{NameIndex, Parts, fit};
@@ -112,10 +112,10 @@ fn is_reached(start: u32, first: u32, name: u32) -> bool
 // Most tables are complete, so this is where the time goes. The start of a name's bucket is read at each name, though it is the same for all names of
 // a segment. Read only where a segment begins, it would stand behind a jump that a processor often guesses wrong, and a wrong guess takes longer
 // than the read. So `follow` only chooses between values, and the jumps that are left always go the same way up to the first missed name.
-#[tactic(auto, unfolding(crate::specs::Segments::walked_to, crate::specs::Segments::first_or, hashes::specs::Table::stored_hash), using(crate::proofs::CheckLaws::fitted_parts, crate::proofs::CheckLaws::walked_first, crate::proofs::CheckLaws::left_all, crate::proofs::CheckLaws::left_on, crate::proofs::CheckLaws::left_found, crate::proofs::CheckLaws::left_none, crate::proofs::CheckLaws::missed_here, crate::proofs::SegmentLaws::before_suc, crate::proofs::CheckLaws::followed_below, hashes::proofs::TableLaws::hashes_within, hashes::proofs::TableLaws::starts_within))]
+#[tactic(auto, unfolding(crate::specs::Segments::walked_to, crate::specs::Segments::first_of, hashes::specs::Table::stored_hash), using(crate::proofs::CheckLaws::fitted_parts, crate::proofs::CheckLaws::walked_first, crate::proofs::CheckLaws::left_all, crate::proofs::CheckLaws::left_on, crate::proofs::CheckLaws::left_found, crate::proofs::CheckLaws::left_none, crate::proofs::CheckLaws::missed_here, crate::proofs::SegmentLaws::before_suc, crate::proofs::CheckLaws::followed_below, hashes::proofs::TableLaws::hashes_within, hashes::proofs::TableLaws::starts_within))]
 fn first_missed(order: RunTimeEndian, section: &[u8], index: NameIndex, p: Parts) -> Walk
     requires { (answered p ≡ fitted section.now index) × (0 < index.bucket_count) }
-    ensures { result ≡ walked_to index (stored_hash order section.now (parts index)) (first_or index.name_count (missed_names order section.now index)) }
+    ensures { result ≡ walked_to index (stored_hash order section.now (parts index)) (first_of index.name_count (missed_names order section.now index)) }
 {
     let starts = p.bucket_data;
     let hashes = p.hash_table_data;
