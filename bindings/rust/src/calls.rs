@@ -6,7 +6,7 @@
 
 use crate::error::{Error, Result};
 use crate::ffi;
-use crate::ffi::{Answer, BucketStep, Entry, HashCursor, HashStep, Header, HeaderStep, IndexHandle, Record, Str, Table};
+use crate::ffi::{Answer, BucketStep, Entry, HashCursor, HashStep, Header, HeaderStep, Index, Record, Str, Table};
 use crate::numbers::{DebugStrOffset, NameEntryOffset, NameTableIndex};
 
 /// A section of `.debug_names`, in a byte order: 0 is little, 1 is big.
@@ -62,7 +62,7 @@ pub fn header_at(section: Section, at: usize) -> Header {
 
 /// Opens an index.
 #[inline]
-pub fn open(section: Section, index: IndexHandle) -> Answer {
+pub fn open(section: Section, index: Index) -> Answer {
     unsafe { ffi::debug_names_open(section.bytes.as_ptr(), section.bytes.len(), index) }
 }
 
@@ -70,7 +70,7 @@ pub fn open(section: Section, index: IndexHandle) -> Answer {
 macro_rules! index_calls {
     ($($name:ident: $call:ident($($argument:ident: $type:ty),*) -> $answer:ty;)+) => {
         $(#[inline]
-        pub fn $name(section: Section, index: IndexHandle $(, $argument: $type)*) -> $answer {
+        pub fn $name(section: Section, index: Index $(, $argument: $type)*) -> $answer {
             unsafe { ffi::$call(section.order, section.bytes.as_ptr(), section.bytes.len(), index $(, $argument)*) }
         })+
     };
@@ -95,7 +95,7 @@ index_calls! {
 
 /// Where the string of a name stands.
 #[inline]
-pub fn name_string(section: Section, strings: &[u8], index: IndexHandle, name: NameTableIndex) -> Str {
+pub fn name_string(section: Section, strings: &[u8], index: Index, name: NameTableIndex) -> Str {
     let (bytes, len) = (section.bytes.as_ptr(), section.bytes.len());
     unsafe { ffi::debug_names_name_string(section.order, bytes, len, strings.as_ptr(), strings.len(), index, name) }
 }

@@ -11,7 +11,7 @@ pub struct ReaderOffsetId(pub u64);
 
 /// A refusal, under gimli's name for it and with its payload.
 ///
-/// Document 01 of the reader numbers them: see [`Error::number`]. The last two are added.
+/// SPECIFICATION 2.1 of the reader numbers them: see [`Error::number`]. The last two are added.
 #[derive(Debug, Clone, Copy, PartialEq, Eq)]
 #[non_exhaustive]
 pub enum Error {
@@ -71,7 +71,7 @@ impl Error {
         }
     }
 
-    /// Document 01's number of the refusal, 1 to 14.
+    /// The number of the refusal, 1 to 14 (SPECIFICATION 2.1).
     pub fn number(&self) -> u8 {
         match self {
             Error::UnexpectedEof(_) => 1,

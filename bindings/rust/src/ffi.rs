@@ -1,6 +1,7 @@
 //! The functions of `libdebug_names.a`, as `include/debug_names.h` declares and describes them.
 //!
-//! A `value` is a plain number, since it also holds what a refusal carries.
+//! A `value` is a plain number, since it also holds what a refusal carries. The structs have the header's names without `debug_names_`; a string
+//! is a `Str`, since `String` is Rust's own.
 
 use crate::numbers::{DebugNamesOffset, DebugStrOffset, NameEntryOffset, NameTableIndex, UnitOffset};
 
@@ -16,7 +17,7 @@ pub struct Answer {
 /// An index: a handle, by value.
 #[repr(C)]
 #[derive(Clone, Copy, Debug, Default, PartialEq, Eq)]
-pub struct IndexHandle {
+pub struct Index {
     pub begin: usize,
     pub end: usize,
     pub compile_unit_count: u32,
@@ -36,7 +37,7 @@ pub struct HeaderStep {
     pub kind: u32,
     pub value: u64,
     pub next: usize,
-    pub index: IndexHandle,
+    pub index: Index,
 }
 
 /// What else a header says.
@@ -142,42 +143,42 @@ pub struct Record {
 }
 
 const _: () = assert!(size_of::<Record>() == 32);
-const _: () = assert!(size_of::<IndexHandle>() == 48);
+const _: () = assert!(size_of::<Index>() == 48);
 const _: () = assert!(size_of::<Table>() == 24);
 
 #[rustfmt::skip]
 unsafe extern "C" {
     pub fn debug_names_next_header(order: u32, section: *const u8, section_len: usize, at: usize) -> HeaderStep;
     pub fn debug_names_header_at(order: u32, section: *const u8, section_len: usize, at: usize) -> Header;
-    pub fn debug_names_open(section: *const u8, section_len: usize, index: IndexHandle) -> Answer;
+    pub fn debug_names_open(section: *const u8, section_len: usize, index: Index) -> Answer;
 
-    pub fn debug_names_compile_unit_count(section: *const u8, section_len: usize, index: IndexHandle) -> Answer;
-    pub fn debug_names_local_type_unit_count(section: *const u8, section_len: usize, index: IndexHandle) -> Answer;
-    pub fn debug_names_foreign_type_unit_count(section: *const u8, section_len: usize, index: IndexHandle) -> Answer;
-    pub fn debug_names_type_unit_count(section: *const u8, section_len: usize, index: IndexHandle) -> Answer;
-    pub fn debug_names_bucket_count(section: *const u8, section_len: usize, index: IndexHandle) -> Answer;
-    pub fn debug_names_name_count(section: *const u8, section_len: usize, index: IndexHandle) -> Answer;
-    pub fn debug_names_has_hash_table(section: *const u8, section_len: usize, index: IndexHandle) -> Answer;
+    pub fn debug_names_compile_unit_count(section: *const u8, section_len: usize, index: Index) -> Answer;
+    pub fn debug_names_local_type_unit_count(section: *const u8, section_len: usize, index: Index) -> Answer;
+    pub fn debug_names_foreign_type_unit_count(section: *const u8, section_len: usize, index: Index) -> Answer;
+    pub fn debug_names_type_unit_count(section: *const u8, section_len: usize, index: Index) -> Answer;
+    pub fn debug_names_bucket_count(section: *const u8, section_len: usize, index: Index) -> Answer;
+    pub fn debug_names_name_count(section: *const u8, section_len: usize, index: Index) -> Answer;
+    pub fn debug_names_has_hash_table(section: *const u8, section_len: usize, index: Index) -> Answer;
 
-    pub fn debug_names_compile_unit(order: u32, section: *const u8, section_len: usize, index: IndexHandle, number: u32) -> Answer;
-    pub fn debug_names_local_type_unit(order: u32, section: *const u8, section_len: usize, index: IndexHandle, number: u32) -> Answer;
-    pub fn debug_names_foreign_type_unit(order: u32, section: *const u8, section_len: usize, index: IndexHandle, number: u32) -> Answer;
-    pub fn debug_names_type_unit(order: u32, section: *const u8, section_len: usize, index: IndexHandle, number: u32) -> Answer;
-    pub fn debug_names_default_compile_unit(order: u32, section: *const u8, section_len: usize, index: IndexHandle) -> Answer;
+    pub fn debug_names_compile_unit(order: u32, section: *const u8, section_len: usize, index: Index, number: u32) -> Answer;
+    pub fn debug_names_local_type_unit(order: u32, section: *const u8, section_len: usize, index: Index, number: u32) -> Answer;
+    pub fn debug_names_foreign_type_unit(order: u32, section: *const u8, section_len: usize, index: Index, number: u32) -> Answer;
+    pub fn debug_names_type_unit(order: u32, section: *const u8, section_len: usize, index: Index, number: u32) -> Answer;
+    pub fn debug_names_default_compile_unit(order: u32, section: *const u8, section_len: usize, index: Index) -> Answer;
 
-    pub fn debug_names_name_string_offset(order: u32, section: *const u8, section_len: usize, index: IndexHandle, name: NameTableIndex) -> Answer;
-    pub fn debug_names_name_string(order: u32, section: *const u8, section_len: usize, strings: *const u8, strings_len: usize, index: IndexHandle, name: NameTableIndex) -> Str;
+    pub fn debug_names_name_string_offset(order: u32, section: *const u8, section_len: usize, index: Index, name: NameTableIndex) -> Answer;
+    pub fn debug_names_name_string(order: u32, section: *const u8, section_len: usize, strings: *const u8, strings_len: usize, index: Index, name: NameTableIndex) -> Str;
     pub fn debug_names_get_str(strings: *const u8, strings_len: usize, offset: DebugStrOffset) -> Str;
 
-    pub fn debug_names_find_by_bucket(order: u32, section: *const u8, section_len: usize, index: IndexHandle, bucket: u32) -> Answer;
-    pub fn debug_names_next_in_bucket(order: u32, section: *const u8, section_len: usize, index: IndexHandle, bucket: u32, name: NameTableIndex) -> BucketStep;
-    pub fn debug_names_find_by_hash(order: u32, section: *const u8, section_len: usize, index: IndexHandle, hash: u32) -> HashStep;
-    pub fn debug_names_next_by_hash(order: u32, section: *const u8, section_len: usize, index: IndexHandle, cursor: HashCursor) -> HashStep;
-    pub fn debug_names_check_table(order: u32, section: *const u8, section_len: usize, index: IndexHandle) -> Table;
+    pub fn debug_names_find_by_bucket(order: u32, section: *const u8, section_len: usize, index: Index, bucket: u32) -> Answer;
+    pub fn debug_names_next_in_bucket(order: u32, section: *const u8, section_len: usize, index: Index, bucket: u32, name: NameTableIndex) -> BucketStep;
+    pub fn debug_names_find_by_hash(order: u32, section: *const u8, section_len: usize, index: Index, hash: u32) -> HashStep;
+    pub fn debug_names_next_by_hash(order: u32, section: *const u8, section_len: usize, index: Index, cursor: HashCursor) -> HashStep;
+    pub fn debug_names_check_table(order: u32, section: *const u8, section_len: usize, index: Index) -> Table;
 
-    pub fn debug_names_name_entries(order: u32, section: *const u8, section_len: usize, index: IndexHandle, name: NameTableIndex) -> Answer;
-    pub fn debug_names_next_entry(order: u32, section: *const u8, section_len: usize, index: IndexHandle, at: usize) -> Entry;
-    pub fn debug_names_name_entry(order: u32, section: *const u8, section_len: usize, index: IndexHandle, offset: NameEntryOffset) -> Entry;
+    pub fn debug_names_name_entries(order: u32, section: *const u8, section_len: usize, index: Index, name: NameTableIndex) -> Answer;
+    pub fn debug_names_next_entry(order: u32, section: *const u8, section_len: usize, index: Index, at: usize) -> Entry;
+    pub fn debug_names_name_entry(order: u32, section: *const u8, section_len: usize, index: Index, offset: NameEntryOffset) -> Entry;
 
     pub fn debug_names_query(order: u32, section: *const u8, section_len: usize, strings: *const u8, strings_len: usize, hash: u32, name: *const u8, name_len: usize, records: *mut Record, records_len: usize) -> Answer;
 }

@@ -4,7 +4,7 @@ use crate::calls::{self, Outcome, Section};
 use crate::common::{Endianity, Format};
 use crate::constants::DwTag;
 use crate::error::Result;
-use crate::ffi::{self, Answer, Facts, HashCursor, IndexHandle};
+use crate::ffi::{self, Answer, Facts, HashCursor, Index};
 use crate::numbers::{DebugInfoOffset, DebugNamesOffset, DebugStrOffset, DebugTypeSignature, NameEntryOffset, NameTableIndex, UnitOffset};
 use crate::query::Record;
 use crate::str::DebugStr;
@@ -78,7 +78,7 @@ impl<'a> Iterator for NameIndexHeaderIter<'a> {
 pub struct NameIndexHeader<'a> {
     section: Section<'a>,
     place: usize,
-    handle: IndexHandle,
+    handle: Index,
 }
 
 impl<'a> NameIndexHeader<'a> {
@@ -207,7 +207,7 @@ pub struct LostName<'a> {
 #[derive(Debug, Clone, Copy)]
 pub struct NameIndex<'a> {
     section: Section<'a>,
-    handle: IndexHandle,
+    handle: Index,
 }
 
 impl<'a> NameIndex<'a> {
@@ -582,7 +582,7 @@ fn name(value: u64) -> NameTableIndex {
 }
 
 #[inline]
-fn format(handle: &IndexHandle) -> Format {
+fn format(handle: &Index) -> Format {
     if handle.format == 8 { Format::Dwarf64 } else { Format::Dwarf32 }
 }
 

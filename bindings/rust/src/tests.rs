@@ -120,7 +120,7 @@ fn counts_of_the_library() {
     let bytes = little();
     let section = Section { bytes: &bytes, order: 0 };
     let handle = calls::next_header(section, 0).index;
-    let count = |call: unsafe extern "C" fn(*const u8, usize, ffi::IndexHandle) -> ffi::Answer| {
+    let count = |call: unsafe extern "C" fn(*const u8, usize, ffi::Index) -> ffi::Answer| {
         let answer = unsafe { call(bytes.as_ptr(), bytes.len(), handle) };
         assert_eq!(answer.check(), Ok(()));
         answer.value
@@ -397,7 +397,7 @@ fn does_not_fit() {
     let cut = Section { bytes: &bytes[..100], order: 0 };
     assert_eq!(calls::open(cut, handle).check(), Err(Error::DoesNotFit));
     assert_eq!(calls::check_table(cut, handle), ffi::Table { status: 14, ..ffi::Table::default() });
-    let no_format = ffi::IndexHandle { format: 5, ..handle };
+    let no_format = ffi::Index { format: 5, ..handle };
     assert_eq!(calls::open(section, no_format).check(), Err(Error::DoesNotFit));
 }
 
@@ -407,7 +407,7 @@ fn a_refused_hash_step_hands_back_the_cursor() {
     let bytes = little();
     let section = Section { bytes: &bytes, order: 0 };
     let index = calls::next_header(section, 0).index;
-    let no_format = ffi::IndexHandle { format: 5, ..index };
+    let no_format = ffi::Index { format: 5, ..index };
     for has_bucket in [0, 1, 7] {
         let cursor = ffi::HashCursor { hash: 1, has_bucket, bucket: 3, name: NameTableIndex(9) };
         let step = calls::next_by_hash(section, no_format, cursor);

@@ -24,7 +24,8 @@ use Rattle.reader.specs.Parts.{Section}
 
 -- the number of a unit: unsigned, else 12 with the form; and of at most 32 bits, else 11 with the number
 unfoldable pub unit_number_in : ℕ → NameAttributeValue → Outcome (Option ℕ)
-unit_number_in form (NameAttributeValue.Unsigned n) = cond (ltb 4294967295 n) (refusal (InvalidNameAttributeIndex n)) (answered (Some n))
+unit_number_in form (NameAttributeValue.Unsigned n) =
+    cond (ltb 4294967295 n) (refusal (InvalidNameAttributeIndex n)) (answered (Some n))
 unit_number_in form (NameAttributeValue.Offset n) = refusal (UnsupportedAttributeForm form)
 unit_number_in form (NameAttributeValue.Flag b) = refusal (UnsupportedAttributeForm form)
 

@@ -21,7 +21,8 @@ ValuesDeclared =
 -- the values of an entry that begin inside a part do not go back and stay inside
 abbrev pub EntryValuesOnward : Type 0
 EntryValuesOnward =
-    (order : RunTimeEndian) (s : List ℕ) (list : List Attribute) (at end : ℕ) (v : Values) → at ≤ part_end s end → values order s list at end ≡ answered v
+    (order : RunTimeEndian) (s : List ℕ) (list : List Attribute) (at end : ℕ) (v : Values) → at ≤ part_end s end
+    → values order s list at end ≡ answered v
     → (at ≤ v.next) × (v.next ≤ part_end s end)
 
 -- whether there is a first attribute of a name, in any form

@@ -49,19 +49,25 @@ AllOpen order s opened =
 
 -- the table check says that an index is complete, or that it has no hash table
 abbrev pub CompleteOrNoTable : RunTimeEndian → List ℕ → OpenIndex → Type 0
-CompleteOrNoTable order s o = (outcome (Ok TableCheck.Complete) ≡ table_check order s o.index) ⊎ (outcome (Ok TableCheck.NoTable) ≡ table_check order s o.index)
+CompleteOrNoTable order s o =
+    (outcome (Ok TableCheck.Complete) ≡ table_check order s o.index) ⊎ (outcome (Ok TableCheck.NoTable) ≡ table_check order s o.index)
 
--- The third part. Of a query that is not refused: its total is the number of the entries expected; and the
--- lent records are at exit the first of their records, as many as there is room for, and after them what was
--- there.
+-- What a query finds: its total is the number of what is expected; and the lent records are at exit the first
+-- of these, as many as there is room for, and after them what was there.
+abbrev pub Finds : List (Outcome Record) → ℕ → List Record → List Record → Type 0
+Finds wanted total lent after =
+    (total ≡ length wanted)
+    × ((new : List Record) × (map answered new ≡ take (length lent) wanted) × (after ≡ new ++ drop (length new) lent))
+
+-- The third part: a query that is not refused finds what is expected.
 abbrev pub QueryFinds : Type 0
 QueryFinds =
-    (order : RunTimeEndian) (s strs : List ℕ) (hash : ℕ) (text : List ℕ) (lent after : List Record) (total : ℕ) (opened : List OpenIndex)
+    (order : RunTimeEndian) (s strs : List ℕ) (hash : ℕ) (text : List ℕ) (lent after : List Record) (total : ℕ)
+    (opened : List OpenIndex)
     → AllOpen order s opened
     → Each (CompleteOrNoTable order s) opened
     → record { answer = outcome (Ok total); records = after } ≡ section_query order s strs hash text lent
-    → (total ≡ length (expected order s strs hash text opened))
-    × ((new : List Record) × (map answered new ≡ take (length lent) (expected order s strs hash text opened)) × (after ≡ new ++ drop (length new) lent))
+    → Finds (expected order s strs hash text opened) total lent after
 
 -- demand 3, in its three parts
 pub record Demand3 : Type 0 where

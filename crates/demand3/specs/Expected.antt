@@ -54,7 +54,8 @@ module _ (order : RunTimeEndian) (s strs : Section) (hash : ℕ) (text : List �
 
   -- the records of the entries in the series of a name
   unfoldable pub records_of_name : OpenIndex → ℕ → List (Outcome Record)
-  records_of_name o name = map (record_of_entry order s o.header.offset.0 (parts o.index) name) (items_of (series order s o.index (record { 0 = name })))
+  records_of_name o name =
+      map (record_of_entry order s o.header.offset.0 (parts o.index) name) (items_of (series order s o.index (record { 0 = name })))
 
   -- those of all matching names of an index, an entry's once for each name in whose series it is
   unfoldable pub records_of_index : OpenIndex → List (Outcome Record)

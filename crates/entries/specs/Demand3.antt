@@ -19,7 +19,8 @@ use Rattle.entries.specs.declared.entry.NameEntry.{NameEntry}
 -- (`ListsInOrder`).
 abbrev pub EntryLookups : Type 0
 EntryLookups =
-    (order : RunTimeEndian) (s : List ℕ) (i : NameIndex) (name : NameTableIndex) (c : NameEntryIter) (steps : List (Taken NameEntry NameEntryIter))
+    (order : RunTimeEndian) (s : List ℕ) (i : NameIndex) (name : NameTableIndex) (c : NameEntryIter)
+    (steps : List (Taken NameEntry NameEntryIter))
     → outcome (Ok c) ≡ name_entries order s i name
     → Linked (entry_step order s i) c steps
     → ListsInOrder (answers steps) (answers_of as_name_entry (series order s i name))

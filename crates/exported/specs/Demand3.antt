@@ -39,7 +39,7 @@ use Rattle.step_answers.specs.Steps.{header_answer, bucket_step_answer, hash_ans
 use Rattle.entry_answers.specs.declared.DebugNamesEntry.{DebugNamesEntry}
 use Rattle.entry_answers.specs.Entry.{entry_step_answer}
 use Rattle.demand3.specs.Expected.{OpenIndex, expected}
-use Rattle.demand3.specs.Demand3.{Each, AllOpen, CompleteOrNoTable}
+use Rattle.demand3.specs.Demand3.{Each, AllOpen, CompleteOrNoTable, Finds}
 use Rattle.exported.specs.Query.{query_answer}
 
 -- a list of what an exported step answered: the first from the cursor c, and each next from the `next` of the
@@ -66,7 +66,8 @@ told_by_entry t = told t.status t.kind t.value (record { offset = record { 0 = t
 -- What the exported steps hand over of a caller's cursor: `debug_names_next_in_bucket` of the number of a
 -- name, `debug_names_next_by_hash` of a hash cursor, and `debug_names_next_entry` of a place.
 abbrev pub next_in_bucket_call : ℕ → List ℕ → DebugNamesIndex → ℕ → NameTableIndex → DebugNamesBucketStep
-next_in_bucket_call order s h bucket name = bucket_step_answer (bucket_step (order_of order) s (index_from h) (bucket_cursor bucket name.0))
+next_in_bucket_call order s h bucket name =
+    bucket_step_answer (bucket_step (order_of order) s (index_from h) (bucket_cursor bucket name.0))
 
 abbrev pub next_by_hash_call : ℕ → List ℕ → DebugNamesIndex → DebugNamesHashCursor → DebugNamesHashStep
 next_by_hash_call order s h c = hash_step_answer c (hash_step (order_of order) s (index_from h) (iter_from c))
@@ -83,7 +84,8 @@ ExportedBuckets =
     (order : ℕ) (s : List ℕ) (h : DebugNamesIndex) (bucket first : ℕ) (steps : List DebugNamesBucketStep)
     → record { status = 0; kind = 1; value = first } ≡ handed bucket_answer (find_by_bucket (order_of order) s (index_from h) bucket)
     → LinkedCalls (next_in_bucket_call order s h bucket) (λ t. t.next) (record { 0 = first }) steps
-    → ListsInOrder (map told_by_bucket steps) (bucket_names (order_of order) s (parts (index_from h)) (run (order_of order) s (index_from h) bucket))
+    → ListsInOrder (map told_by_bucket steps)
+    (bucket_names (order_of order) s (parts (index_from h)) (run (order_of order) s (index_from h) bucket))
 
 -- The same for `debug_names_find_by_hash` and `debug_names_next_by_hash`, and the names of the run that store
 -- the hash.
@@ -103,19 +105,15 @@ ExportedEntries =
     → LinkedCalls (next_entry_call order s h) (λ t. t.next) first steps
     → ListsInOrder (map told_by_entry steps) (answers_of as_name_entry (series (order_of order) s (index_from h) name))
 
--- The third part, of `debug_names_query`. Where it is not refused: its total is the number of the entries
--- expected; and the lent records are at exit the first of their records, as many as there is room for, and
--- after them what was there.
+-- The third part, of `debug_names_query`: where it is not refused, it finds what is expected.
 abbrev pub ExportedQueryFinds : Type 0
 ExportedQueryFinds =
     (order : ℕ) (s strs : List ℕ) (hash : ℕ) (text : List ℕ) (lent after : List Record) (total : ℕ) (opened : List OpenIndex)
     → AllOpen (order_of order) s opened
     → Each (CompleteOrNoTable (order_of order) s) opened
-    → record { answer = record { status = 0; kind = 1; value = total }; records = after } ≡ query_answer (order_of order) s strs hash text lent
-    → (total ≡ length (expected (order_of order) s strs hash text opened))
-    × ((new : List Record)
-    × (map answered new ≡ take (length lent) (expected (order_of order) s strs hash text opened))
-    × (after ≡ new ++ drop (length new) lent))
+    → record { answer = record { status = 0; kind = 1; value = total }; records = after }
+    ≡ query_answer (order_of order) s strs hash text lent
+    → Finds (expected (order_of order) s strs hash text opened) total lent after
 
 -- What the exported calls over a section's headers hand over: `debug_names_next_header` of a place, and of
 -- the handle that it gave `debug_names_open` and `debug_names_check_table`.
@@ -155,7 +153,10 @@ header_for i = record {
 -- the index that a header step tells of: its place and its handle. `expected` looks at no other field of its
 -- header.
 abbrev pub index_told : DebugNamesHeaderStep → OpenIndex
-index_told t = record { header = record (header_for (index_from t.index)) { offset = record { 0 = t.value } }; index = index_from t.index }
+index_told t = record {
+  header = record (header_for (index_from t.index)) { offset = record { 0 = t.value } };
+  index = index_from t.index;
+}
 
 -- The third part with nothing but the structs that the calls give. If a list of `debug_names_next_header`,
 -- the first at place 0 and each next at the `next` of the one before it, is headers whose indexes open and
@@ -163,12 +164,11 @@ index_told t = record { header = record (header_for (index_from t.index)) { offs
 -- not refused finds what is expected of these indexes, as `ExportedQueryFinds` says it.
 abbrev pub ExportedFinds : Type 0
 ExportedFinds =
-    (order : ℕ) (s strs : List ℕ) (hash : ℕ) (text : List ℕ) (lent after : List Record) (total : ℕ) (headers : List DebugNamesHeaderStep) (end : DebugNamesHeaderStep)
+    (order : ℕ) (s strs : List ℕ) (hash : ℕ) (text : List ℕ) (lent after : List Record) (total : ℕ)
+    (headers : List DebugNamesHeaderStep) (end : DebugNamesHeaderStep)
     → LinkedCalls (next_header_call order s) (λ t. t.next) 0 (headers ++ end ∷ [])
     → Each (OpensComplete order s) headers
     → (end.status ≡ 0) × (end.kind ≡ 0)
-    → record { answer = record { status = 0; kind = 1; value = total }; records = after } ≡ query_answer (order_of order) s strs hash text lent
-    → (total ≡ length (expected (order_of order) s strs hash text (map index_told headers)))
-    × ((new : List Record)
-    × (map answered new ≡ take (length lent) (expected (order_of order) s strs hash text (map index_told headers)))
-    × (after ≡ new ++ drop (length new) lent))
+    → record { answer = record { status = 0; kind = 1; value = total }; records = after }
+    ≡ query_answer (order_of order) s strs hash text lent
+    → Finds (expected (order_of order) s strs hash text (map index_told headers)) total lent after

@@ -12,5 +12,6 @@ use Rattle.forms.specs.declared.NameAttributeValue.{NameAttributeValue}
 -- flag_present does
 abbrev pub ValuesOnward : Type 0
 ValuesOnward =
-    (form : ℕ) (order : RunTimeEndian) (s : List ℕ) (at end : ℕ) (v : (Read NameAttributeValue)) → at ≤ part_end s end → form_value form order s at end ≡ answered v
+    (form : ℕ) (order : RunTimeEndian) (s : List ℕ) (at end : ℕ) (v : (Read NameAttributeValue)) → at ≤ part_end s end
+    → form_value form order s at end ≡ answered v
     → (at ≤ v.next) × (v.next ≤ part_end s end)

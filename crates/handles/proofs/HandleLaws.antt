@@ -6,7 +6,7 @@ use borrow.Author.Tests.{le-ltb}
 use Rattle.reader.specs.Errors.{longest}
 use Rattle.reader.specs.declared.common.Format.{Format}
 use Rattle.index.specs.Words.{word_bytes}
-use Rattle.index.specs.Layout.{fitted, parts, place, places_from, sizes, hash_bytes}
+use Rattle.index.specs.Layout.{no_index, fitted, parts, place, places_from, sizes, hash_bytes}
 use Rattle.index.specs.Open.{index_of, name_index}
 use Rattle.handles.specs.Handles.{with_format, misfit, index_from, handle_of, iter_from, cursor_from}
 use Rattle.handles.specs.Sanity.{OtherFormatsMisfit, HandlesDescribe, OpensTheSame, CursorsComeBack}
@@ -14,7 +14,7 @@ use Rattle.std.specs.Prelude.{Option, Some, None}
 use Rattle.hashes.specs.declared.bucket.NameBucketIter.{NameBucketIter}
 
 pub other_formats_misfit : OtherFormatsMisfit
-unfolding fitted index_from misfit parts place places_from sizes word_bytes hash_bytes
+unfolding fitted index_from misfit no_index parts place places_from sizes word_bytes hash_bytes
 other_formats_misfit s h short four eight = rw (four, eight, le-ltb longest (length s) short, le-ltb (length s) 0 (omega arith)) refl
 
 pub handles_describe : HandlesDescribe

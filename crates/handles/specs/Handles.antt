@@ -11,6 +11,7 @@ use Rattle.reader.specs.declared.endianity.RunTimeEndian.{RunTimeEndian}
 use Rattle.reader.specs.declared.common.Format.{Format}
 use Rattle.headers.specs.declared.header.NameIndexHeader.{NameIndexHeader}
 use Rattle.index.specs.declared.layout.NameIndex.{NameIndex}
+use Rattle.index.specs.Layout.{no_index}
 use Rattle.hashes.specs.declared.hash.NameHashIter.{NameHashIter}
 use Rattle.hashes.specs.Lookups.{hash_cursor}
 use Rattle.handles.specs.declared.DebugNamesIndex.{DebugNamesIndex}
@@ -37,17 +38,7 @@ with_format format h = record {
 
 -- an index that ends before it begins, so that it fits no section
 unfoldable pub misfit : NameIndex
-misfit = record {
-  format = Format.Dwarf32;
-  compile_unit_count = 0;
-  local_type_unit_count = 0;
-  foreign_type_unit_count = 0;
-  bucket_count = 0;
-  name_count = 0;
-  abbrev_table_size = 0;
-  begin = 1;
-  end = 0;
-}
+misfit = record no_index { begin = 1 }
 
 -- the index of a handle: words of 4 bytes or of 8; in any other format it does not fit
 unfoldable pub index_from : DebugNamesIndex → NameIndex

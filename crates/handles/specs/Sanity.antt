@@ -14,7 +14,8 @@ use Rattle.handles.specs.Handles.{index_from, handle_of, iter_from, cursor_from}
 -- a format that is neither 4 nor 8 does not fit
 abbrev pub OtherFormatsMisfit : Type 0
 OtherFormatsMisfit =
-    (s : List ℕ) (h : DebugNamesIndex) → length s ≤ longest → eqb h.format 4 ≡ false → eqb h.format 8 ≡ false → fitted s (index_from h) ≡ refused 14 0
+    (s : List ℕ) (h : DebugNamesIndex) → length s ≤ longest → eqb h.format 4 ≡ false → eqb h.format 8 ≡ false
+    → fitted s (index_from h) ≡ refused 14 0
 
 -- the handle that a header step gives stands for the index that the header describes
 abbrev pub HandlesDescribe : Type 0

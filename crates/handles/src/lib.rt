@@ -54,7 +54,7 @@ impl From<DebugNamesIndex> for NameIndex {
     ghost from_gives = { λ h index. index ≡ index_from h };
 
     // The index that a handle stands for: in a format that is none, one that ends before it begins, and so fits no section.
-    #[tactic(auto, unfolding(crate::specs::Handles::index_from, crate::specs::Handles::with_format, crate::specs::Handles::misfit))]
+    #[tactic(auto, unfolding(crate::specs::Handles::index_from, crate::specs::Handles::with_format, crate::specs::Handles::misfit, index::specs::Layout::no_index))]
     fn from(h: DebugNamesIndex) -> NameIndex {
         let format = match h.format {
             4 => Format::Dwarf32,

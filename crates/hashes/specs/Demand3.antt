@@ -37,7 +37,8 @@ hash_names = map λ n. answered (Some (record { 0 = n }))
 -- all of the run is answered (`ListsInOrder`).
 abbrev pub BucketLookups : Type 0
 BucketLookups =
-    (order : RunTimeEndian) (s : List ℕ) (i : NameIndex) (bucket : ℕ) (c : NameBucketIter) (steps : List (Taken BucketName NameBucketIter))
+    (order : RunTimeEndian) (s : List ℕ) (i : NameIndex) (bucket : ℕ) (c : NameBucketIter)
+    (steps : List (Taken BucketName NameBucketIter))
     → outcome (Ok (Some c)) ≡ find_by_bucket order s i bucket
     → Linked (bucket_step order s i) c steps
     → ListsInOrder (bucket_answers steps) (bucket_names order s (parts i) (run order s i bucket))
@@ -45,7 +46,8 @@ BucketLookups =
 -- The same for `find_by_hash`, and the names of the run that store the hash.
 abbrev pub HashLookups : Type 0
 HashLookups =
-    (order : RunTimeEndian) (s : List ℕ) (i : NameIndex) (hash : ℕ) (c : NameHashIter) (steps : List (Taken NameTableIndex NameHashIter))
+    (order : RunTimeEndian) (s : List ℕ) (i : NameIndex) (hash : ℕ) (c : NameHashIter)
+    (steps : List (Taken NameTableIndex NameHashIter))
     → outcome (Ok c) ≡ find_by_hash order s i hash
     → Linked (hash_step order s i) c steps
     → ListsInOrder (hash_answers steps) (hash_names (names_of_hash order s i hash))

@@ -61,14 +61,18 @@ unfoldable pub next_in_bucket : NameIndex → (ℕ → ℕ) → ℕ → ℕ → 
 next_in_bucket i hash_of bucket name = first_or (run_from i hash_of bucket name) (name + length (examined_from i hash_of bucket name))
 
 unfoldable pub next_storing : NameIndex → (ℕ → ℕ) → ℕ → ℕ → ℕ → Found
-next_storing i hash_of bucket hash name = first_or (storing hash_of hash (run_from i hash_of bucket name)) (name + length (examined_from i hash_of bucket name))
+next_storing i hash_of bucket hash name =
+    first_or (storing hash_of hash (run_from i hash_of bucket name)) (name + length (examined_from i hash_of bucket name))
 
 -- what a step answers where the search ended so
 abbrev pub bucket_moved : (ℕ → BucketName) → ℕ → Found → Step BucketName NameBucketIter
 bucket_moved shown bucket f = record { answer = answered (option_map shown f.name); cursor = bucket_cursor bucket f.next }
 
 abbrev pub hash_moved : ℕ → ℕ → Found → Step NameTableIndex NameHashIter
-hash_moved bucket hash f = record { answer = answered (option_map (λ name. record { 0 = name }) f.name); cursor = hash_cursor bucket hash f.next }
+hash_moved bucket hash f = record {
+  answer = answered (option_map (λ name. record { 0 = name }) f.name);
+  cursor = hash_cursor bucket hash f.next;
+}
 
 -- a section, in its byte order
 module _ (order : RunTimeEndian) (s : Section) where

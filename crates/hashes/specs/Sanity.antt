@@ -27,12 +27,14 @@ NoneAtZero =
 abbrev pub ExaminedRun : Type 0
 ExaminedRun =
     (order : RunTimeEndian) (s : List ℕ) (i : NameIndex) (bucket : ℕ)
-    → (take (length (run order s i bucket)) (examined order s i bucket) ≡ run order s i bucket) × (length (examined order s i bucket) ≤ length (run order s i bucket) + 1)
+    → (take (length (run order s i bucket)) (examined order s i bucket) ≡ run order s i bucket)
+    × (length (examined order s i bucket) ≤ length (run order s i bucket) + 1)
 
 -- more steps of a lookup than the index has names contain an end
 abbrev pub BucketsEnd : Type 0
 BucketsEnd =
-    (order : RunTimeEndian) (s : List ℕ) (i : NameIndex) (bucket : ℕ) (c : NameBucketIter) (steps : List (Taken BucketName NameBucketIter))
+    (order : RunTimeEndian) (s : List ℕ) (i : NameIndex) (bucket : ℕ) (c : NameBucketIter)
+    (steps : List (Taken BucketName NameBucketIter))
     → outcome (Ok (Some c)) ≡ find_by_bucket order s i bucket
     → Linked (bucket_step order s i) c steps
     → i.name_count < length steps
@@ -40,7 +42,8 @@ BucketsEnd =
 
 abbrev pub HashesEnd : Type 0
 HashesEnd =
-    (order : RunTimeEndian) (s : List ℕ) (i : NameIndex) (hash : ℕ) (c : NameHashIter) (steps : List (Taken NameTableIndex NameHashIter))
+    (order : RunTimeEndian) (s : List ℕ) (i : NameIndex) (hash : ℕ) (c : NameHashIter)
+    (steps : List (Taken NameTableIndex NameHashIter))
     → outcome (Ok c) ≡ find_by_hash order s i hash
     → Linked (hash_step order s i) c steps
     → i.name_count < length steps

@@ -49,19 +49,23 @@ HeadersFit =
 -- a step that gives a header moves forward and stays inside the section
 abbrev pub StepsForward : Type 0
 StepsForward =
-    (order : RunTimeEndian) (s : List ℕ) (c : NameIndexHeaderIter) (h : NameIndexHeader) → (header_step order s c).answer ≡ answered (Some h)
+    (order : RunTimeEndian) (s : List ℕ) (c : NameIndexHeaderIter) (h : NameIndexHeader)
+    → (header_step order s c).answer ≡ answered (Some h)
     → (c.at < (header_step order s c).cursor.at) × ((header_step order s c).cursor.at ≤ length s)
 
 -- so a walk over the headers of a section ends: of any steps, each given the cursor of the one before, one is
 -- the end if they are more than the bytes that were left
 abbrev pub WalksEnd : Type 0
 WalksEnd =
-    (order : RunTimeEndian) (s : List ℕ) (c : NameIndexHeaderIter) (ts : List (Taken NameIndexHeader NameIndexHeaderIter)) → length s ≤ longest → c.at ≤ length s
+    (order : RunTimeEndian) (s : List ℕ) (c : NameIndexHeaderIter) (ts : List (Taken NameIndexHeader NameIndexHeaderIter))
+    → length s ≤ longest → c.at ≤ length s
     → Linked (header_step order s) c ts → length s - c.at < length ts → has_end (answers ts) ≡ true
 
 -- the headers from a place on are the header there, and those from the place where its index ends
 abbrev pub HeadersUnfold : Type 0
-HeadersUnfold = (order : RunTimeEndian) (s : List ℕ) (at : ℕ) → headers_from order s at ≡ listed (header_at order s at) λ h. headers_from order s h.content.end
+HeadersUnfold =
+    (order : RunTimeEndian) (s : List ℕ) (at : ℕ)
+    → headers_from order s at ≡ listed (header_at order s at) λ h. headers_from order s h.content.end
 
 -- the fields of a header depend on the bytes of its own part alone
 abbrev pub BodiesInPart : Type 0

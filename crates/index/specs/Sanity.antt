@@ -17,11 +17,15 @@ PartsFollow = (i : NameIndex) → (place i 0 ≡ i.begin) × ((k : ℕ) → k < 
 
 -- the parts of an index that fits lie inside the section, in order: so no two of them share a byte
 abbrev pub PartsInside : Type 0
-PartsInside = (s : List ℕ) (i : NameIndex) → Fits s i → (j k : ℕ) → j ≤ k → k ≤ 8 → (i.begin ≤ place i j) × (place i j ≤ place i k) × (place i k ≤ i.end) × (i.end ≤ length s)
+PartsInside =
+    (s : List ℕ) (i : NameIndex) → Fits s i → (j k : ℕ) → j ≤ k → k ≤ 8
+    → (i.begin ≤ place i j) × (place i j ≤ place i k) × (place i k ≤ i.end) × (i.end ≤ length s)
 
 -- an opened index fits its section, and is the one that the header describes
 abbrev pub OpenedFits : Type 0
-OpenedFits = (s : List ℕ) (h : NameIndexHeader) (i : NameIndex) → name_index s h ≡ answered i → (length s ≤ longest) × Fits s i × (i ≡ index_of h)
+OpenedFits =
+    (s : List ℕ) (h : NameIndexHeader) (i : NameIndex) → name_index s h ≡ answered i
+    → (length s ≤ longest) × Fits s i × (i ≡ index_of h)
 
 -- what opening a header answers depends on the bytes of its own part alone
 abbrev pub OpensInPart : Type 0

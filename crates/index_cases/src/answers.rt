@@ -4,7 +4,7 @@ use case_calls::index_of;
 use case_lines::Case;
 use headers::{DebugNames, NameIndexHeader, NameIndexHeaderIter, cut_header, parse_body};
 use index::{NameIndex, fit, words};
-use names::nth_word;
+use index::nth_word;
 use reader::{DebugNamesOffset, Error, Format, Part, RunTimeEndian, Step};
 use show::{Show, Style};
 use std::io;

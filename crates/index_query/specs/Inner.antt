@@ -52,4 +52,5 @@ module _ (order : RunTimeEndian) (s strs : Section) (hash : ℕ) (text : List �
   -- the records that a cursor has left: those of the entries from its place on, and those of the names that
   -- match after it
   unfoldable pub index_left : ℕ → Parts → IndexIter → Listing Record
-  index_left offset p c = followed_by (entry_records order s offset p c.name.0 c.at) (all_series order s strs hash text offset p (matches_from p c.next))
+  index_left offset p c =
+      followed_by (entry_records order s offset p c.name.0 c.at) (all_series order s strs hash text offset p (matches_from p c.next))

@@ -24,4 +24,5 @@ module _ (order : RunTimeEndian) (s strs : Section) (hash : ℕ) (text : List �
 
   -- the records of an index: those of the candidates that match
   unfoldable pub index_records : ℕ → Parts → Listing Record
-  index_records offset p = or_broken (candidates order s hash p) λ names. all_series offset p (matching (name_matches order s strs text p) names)
+  index_records offset p =
+      or_broken (candidates order s hash p) λ names. all_series offset p (matching (name_matches order s strs text p) names)

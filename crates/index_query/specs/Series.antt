@@ -18,7 +18,8 @@ use Rattle.reader.specs.Parts.{Section}
 module _ (order : RunTimeEndian) (s : Section) where
   -- the record of an entry of a name
   unfoldable pub record_of_entry : ℕ → Parts → ℕ → Entry → Outcome Record
-  record_of_entry offset p name e = entry_record order s p (record { index = offset; name = name; entry = e.offset }) e.tag (facts e.attributes)
+  record_of_entry offset p name e =
+      entry_record order s p (record { index = offset; name = name; entry = e.offset }) e.tag (facts e.attributes)
 
   -- the records of the entries of a name: each entry is read whole, then its unit, then its DIE offset
   unfoldable pub series_records : ℕ → Parts → ℕ → Listing Record

@@ -74,7 +74,8 @@ unfoldable pub byte_by_byte : ℕ → ℕ → ℕ → List ℕ → ℕ → Outco
 byte_by_byte bits i value [] at = refused 1 at
 byte_by_byte bits i value (b ∷ bs) at =
     let sum : ℕ = value + 128 ^ i * (b % 128) in
-    cond (beyond bits i b) (refused 7 0) (cond (ltb b 128) (answered (record { value = sum; next = at + 1 })) (byte_by_byte bits (suc i) sum bs (at + 1)))
+    cond (beyond bits i b) (refused 7 0)
+    (cond (ltb b 128) (answered (record { value = sum; next = at + 1 })) (byte_by_byte bits (suc i) sum bs (at + 1)))
 
 -- that is what is read, for every width, all bytes and all places
 abbrev pub ByteByByte : Type 0
@@ -94,7 +95,8 @@ gimli_leb128 last top s at end = gimli_of_bytes last top (number_bytes (slice at
 -- where the byte of the number at that position, if there is one, does not continue, gimli reads the same
 abbrev pub GimliReadsTheSame : ℕ → ℕ → ℕ → Type 0
 GimliReadsTheSame bits last top =
-    (s : List ℕ) (at end : ℕ) → get_or (number_bytes (slice at end s)) last 0 < 128 → leb128 bits s at end ≡ gimli_leb128 last top s at end
+    (s : List ℕ) (at end : ℕ) → get_or (number_bytes (slice at end s)) last 0 < 128
+    → leb128 bits s at end ≡ gimli_leb128 last top s at end
 
 -- gimli's `unsigned` takes ten bytes, of which the tenth is 0 or 1; its `u16` takes three, of which the third
 -- is at most 3
@@ -106,7 +108,8 @@ U16AsGimli = GimliReadsTheSame u16_limit 2 3
 
 -- what the two suppose holds of nine ff and then 01, and of ff ff 03
 abbrev pub AsGimliSupposes : Type 0
-AsGimliSupposes = (get_or (number_bytes (replicate 9 0xff ++ 0x01 ∷ [])) 9 0 < 128) × (get_or (number_bytes (0xff ∷ 0xff ∷ 0x03 ∷ [])) 2 0 < 128)
+AsGimliSupposes =
+    (get_or (number_bytes (replicate 9 0xff ++ 0x01 ∷ [])) 9 0 < 128) × (get_or (number_bytes (0xff ∷ 0xff ∷ 0x03 ∷ [])) 2 0 < 128)
 
 -- numbers at the start of these bytes, in a part that ends with them
 abbrev unsigned : List ℕ → Outcome (Read ℕ)

@@ -31,10 +31,12 @@ DecimalSteps = (n : ℕ) → decimal n ≡ cond (ltb n 10) (digit n ∷ []) (dec
 
 -- lines of these numbers
 abbrev index : ℕ → ℕ → ℕ → Option ℕ → Line
-index place names buckets missed = Line.Index (record { place = record { 0 = place }; name_count = names; bucket_count = buckets; missed = missed })
+index place names buckets missed =
+    Line.Index (record { place = record { 0 = place }; name_count = names; bucket_count = buckets; missed = missed })
 
 abbrev name : ℕ → Option ℕ → ℕ → ℕ → Line
-name number hash string entries = Line.Name (record { name = record { 0 = number }; hash = hash; string = record { 0 = string }; entries = entries })
+name number hash string entries =
+    Line.Name (record { name = record { 0 = number }; hash = hash; string = record { 0 = string }; entries = entries })
 
 -- Case A's lines; then lines with several digits in every field, with the largest numbers that the code's
 -- types hold (of the place that of the longest section), and with "-" for missed and for a hash; no indexes,

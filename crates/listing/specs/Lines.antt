@@ -60,7 +60,8 @@ module _ (order : RunTimeEndian) (s : Section) where
   header_lines listed ended = item (Line.Indexes listed) ended
   header_lines listed (broken n v) = broken n v
   header_lines listed (item h rest) =
-      or_broken (opened_index order s h) λ o. item (Line.Index o.line) (name_lines o.index (names_from o.index 0) (header_lines (listed + 1) rest))
+      or_broken (opened_index order s h) λ o.
+      item (Line.Index o.line) (name_lines o.index (names_from o.index 0) (header_lines (listed + 1) rest))
 
   -- the lines of a section
   unfoldable pub section_lines : Listing Line
@@ -69,12 +70,15 @@ module _ (order : RunTimeEndian) (s : Section) where
   -- the line of the header at the cursor's place, or after the last the number of indexes
   abbrev pub header_line : ListingIter → Option NameIndexHeader → Step Line ListingIter
   header_line c None = record { answer = answered (Some (Line.Indexes c.listed)); cursor = ended_at c }
-  header_line c (Some h) = line_or c (opened_index order s h) λ o. record { answer = answered (Some (Line.Index o.line)); cursor = past_index c h o.index }
+  header_line c (Some h) =
+      line_or c (opened_index order s h) λ o. record { answer = answered (Some (Line.Index o.line)); cursor = past_index c h o.index }
 
   -- the step to the next index: a cursor that has listed more indexes than there are bytes before its place
   -- does not fit
   unfoldable pub head_step : ListingIter → Step Line ListingIter
-  head_step c = line_or c (fail_if (ltb c.at c.listed) DoesNotFit) λ u. line_or c (header_step order s (record { at = c.at })).answer (header_line c)
+  head_step c =
+      line_or c (fail_if (ltb c.at c.listed) DoesNotFit) λ u.
+      line_or c (header_step order s (record { at = c.at })).answer (header_line c)
 
   -- the step: the names of the open index, then the next index
   unfoldable pub line_step : ListingIter → Step Line ListingIter

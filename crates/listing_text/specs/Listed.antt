@@ -12,8 +12,10 @@ use Rattle.listing_text.specs.Written.{written_of, text_step}
 -- The steps that a program makes from a cursor on: each is given the cursor of the one before it, and the
 -- last is the first that prints nothing.
 pub data StepsFrom (s : List ℕ) : ListingIter → List TextStep → Type 0 where
-  last_step : {c : ListingIter} {t : TextStep} → written_of t ≡ text_step s c → ◌≡◌ {A = Option LineText} t.text None → StepsFrom s c (t ∷ [])
-  step_then : {c : ListingIter} {t : TextStep} {ts : List TextStep} {l : LineText} → written_of t ≡ text_step s c → ◌≡◌ {A = Option LineText} t.text (Some l)
+  last_step : {c : ListingIter} {t : TextStep} → written_of t ≡ text_step s c → ◌≡◌ {A = Option LineText} t.text None
+      → StepsFrom s c (t ∷ [])
+  step_then : {c : ListingIter} {t : TextStep} {ts : List TextStep} {l : LineText} → written_of t ≡ text_step s c
+      → ◌≡◌ {A = Option LineText} t.text (Some l)
       → StepsFrom s t.cursor ts → StepsFrom s c (t ∷ ts)
 
 -- what a step prints: the text that it gives, or nothing
@@ -23,4 +25,6 @@ printed_bytes (Some l) = text_of l
 
 -- The texts of these steps, one after another, are the text of the section's listing.
 abbrev pub TextListed : Type 0
-TextListed = (s : List ℕ) (steps : List TextStep) → StepsFrom s first_line steps → joined (map (λ t. printed_bytes t.text) steps) ≡ section_text s
+TextListed =
+    (s : List ℕ) (steps : List TextStep) → StepsFrom s first_line steps
+    → joined (map (λ t. printed_bytes t.text) steps) ≡ section_text s

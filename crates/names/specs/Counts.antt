@@ -7,39 +7,31 @@ use Rattle.reader.specs.Outcome.{Outcome, answered, ◌>>◌}
 use Rattle.index.specs.declared.layout.NameIndex.{NameIndex}
 use Rattle.index.specs.Layout.{fitted}
 
-unfoldable pub compile_unit_count_of : List ℕ → NameIndex → Outcome ℕ
-compile_unit_count_of s i = do
+-- what a call answers of an index that fits
+unfoldable pub of_fitting : {A : Type 0} → (NameIndex → A) → List ℕ → NameIndex → Outcome A
+of_fitting says s i = do
   fitted s i
-  answered i.compile_unit_count
+  answered (says i)
+
+unfoldable pub compile_unit_count_of : List ℕ → NameIndex → Outcome ℕ
+compile_unit_count_of = of_fitting λ i. i.compile_unit_count
 
 unfoldable pub local_type_unit_count_of : List ℕ → NameIndex → Outcome ℕ
-local_type_unit_count_of s i = do
-  fitted s i
-  answered i.local_type_unit_count
+local_type_unit_count_of = of_fitting λ i. i.local_type_unit_count
 
 unfoldable pub foreign_type_unit_count_of : List ℕ → NameIndex → Outcome ℕ
-foreign_type_unit_count_of s i = do
-  fitted s i
-  answered i.foreign_type_unit_count
+foreign_type_unit_count_of = of_fitting λ i. i.foreign_type_unit_count
 
 -- local and foreign
 unfoldable pub type_unit_count : List ℕ → NameIndex → Outcome ℕ
-type_unit_count s i = do
-  fitted s i
-  answered (i.local_type_unit_count + i.foreign_type_unit_count)
+type_unit_count = of_fitting λ i. i.local_type_unit_count + i.foreign_type_unit_count
 
 unfoldable pub bucket_count_of : List ℕ → NameIndex → Outcome ℕ
-bucket_count_of s i = do
-  fitted s i
-  answered i.bucket_count
+bucket_count_of = of_fitting λ i. i.bucket_count
 
 unfoldable pub name_count_of : List ℕ → NameIndex → Outcome ℕ
-name_count_of s i = do
-  fitted s i
-  answered i.name_count
+name_count_of = of_fitting λ i. i.name_count
 
 -- an index has a hash table if it has a bucket
 unfoldable pub has_hash_table : List ℕ → NameIndex → Outcome Bool
-has_hash_table s i = do
-  fitted s i
-  answered (ltb 0 i.bucket_count)
+has_hash_table = of_fitting λ i. ltb 0 i.bucket_count

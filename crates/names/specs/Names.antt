@@ -61,9 +61,7 @@ module _ (order : RunTimeEndian) (s : Section) where
 
   -- the calls: the string offset of a name,
   unfoldable pub name_string_offset : NameIndex → NameTableIndex → Outcome DebugStrOffset
-  name_string_offset i name = do
-    p ← fitted s i
-    name_string_offset_in p name
+  name_string_offset i name = fitted s i >>= λ p. name_string_offset_in p name
 
   -- its string: 13 for .debug_names, 13 for .debug_str, 14, the string offset, the string;
   unfoldable pub name_string : Section → NameIndex → NameTableIndex → Outcome Str

@@ -25,5 +25,6 @@ the_end = answered None
 -- again.
 abbrev pub NamesInOrder : Type 0
 NamesInOrder =
-    (s : List ℕ) (i : NameIndex) (rs : List (Taken NameTableIndex NameTableIter)) → length s ≤ longest → Fits s i → Linked (name_step s i) first_name rs
+    (s : List ℕ) (i : NameIndex) (rs : List (Taken NameTableIndex NameTableIter)) → length s ≤ longest → Fits s i
+    → Linked (name_step s i) first_name rs
     → answers rs ≡ take (length rs) (map named (numbers_from 0 i.name_count) ++ replicate (length rs) the_end)

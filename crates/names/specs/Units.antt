@@ -63,26 +63,16 @@ module _ (order : RunTimeEndian) (s : Section) where
 
   -- the calls: 13 and 14 of the index are tested first
   unfoldable pub nth_compile_unit : NameIndex → ℕ → Outcome DebugInfoOffset
-  nth_compile_unit i k = do
-    p ← fitted s i
-    compile_unit_in p k
+  nth_compile_unit i k = fitted s i >>= λ p. compile_unit_in p k
 
   unfoldable pub local_type_unit : NameIndex → ℕ → Outcome DebugInfoOffset
-  local_type_unit i k = do
-    p ← fitted s i
-    local_type_unit_in p k
+  local_type_unit i k = fitted s i >>= λ p. local_type_unit_in p k
 
   unfoldable pub foreign_type_unit : NameIndex → ℕ → Outcome DebugTypeSignature
-  foreign_type_unit i k = do
-    p ← fitted s i
-    foreign_type_unit_in p k
+  foreign_type_unit i k = fitted s i >>= λ p. foreign_type_unit_in p k
 
   unfoldable pub nth_type_unit : NameIndex → ℕ → Outcome NameTypeUnit
-  nth_type_unit i k = do
-    p ← fitted s i
-    type_unit_in p k
+  nth_type_unit i k = fitted s i >>= λ p. type_unit_in p k
 
   unfoldable pub default_compile_unit : NameIndex → Outcome (Option DebugInfoOffset)
-  default_compile_unit i = do
-    p ← fitted s i
-    default_compile_unit_in p
+  default_compile_unit i = fitted s i >>= λ p. default_compile_unit_in p

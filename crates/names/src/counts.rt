@@ -9,7 +9,7 @@ use index::{NameIndex, fit};
 use reader::Error;
 
 // The number of compile units.
-#[tactic(auto, unfolding(crate::specs::Counts::compile_unit_count_of))]
+#[tactic(auto, unfolding(crate::specs::Counts::compile_unit_count_of, crate::specs::Counts::of_fitting))]
 pub fn compile_unit_count(section: &[u8], index: NameIndex) -> Result<u32, Error>
     ensures { outcome result ≡ compile_unit_count_of section.now index }
 {
@@ -18,7 +18,7 @@ pub fn compile_unit_count(section: &[u8], index: NameIndex) -> Result<u32, Error
 }
 
 // The number of local type units.
-#[tactic(auto, unfolding(crate::specs::Counts::local_type_unit_count_of))]
+#[tactic(auto, unfolding(crate::specs::Counts::local_type_unit_count_of, crate::specs::Counts::of_fitting))]
 pub fn local_type_unit_count(section: &[u8], index: NameIndex) -> Result<u32, Error>
     ensures { outcome result ≡ local_type_unit_count_of section.now index }
 {
@@ -27,7 +27,7 @@ pub fn local_type_unit_count(section: &[u8], index: NameIndex) -> Result<u32, Er
 }
 
 // The number of foreign type units.
-#[tactic(auto, unfolding(crate::specs::Counts::foreign_type_unit_count_of))]
+#[tactic(auto, unfolding(crate::specs::Counts::foreign_type_unit_count_of, crate::specs::Counts::of_fitting))]
 pub fn foreign_type_unit_count(section: &[u8], index: NameIndex) -> Result<u32, Error>
     ensures { outcome result ≡ foreign_type_unit_count_of section.now index }
 {
@@ -36,7 +36,7 @@ pub fn foreign_type_unit_count(section: &[u8], index: NameIndex) -> Result<u32, 
 }
 
 // The number of type units, local and foreign.
-#[tactic(auto, unfolding(crate::specs::Counts::type_unit_count))]
+#[tactic(auto, unfolding(crate::specs::Counts::type_unit_count, crate::specs::Counts::of_fitting))]
 pub fn type_unit_count(section: &[u8], index: NameIndex) -> Result<u32, Error>
     ensures { outcome result ≡ type_unit_count section.now index }
 {
@@ -45,7 +45,7 @@ pub fn type_unit_count(section: &[u8], index: NameIndex) -> Result<u32, Error>
 }
 
 // The number of buckets of the hash table.
-#[tactic(auto, unfolding(crate::specs::Counts::bucket_count_of))]
+#[tactic(auto, unfolding(crate::specs::Counts::bucket_count_of, crate::specs::Counts::of_fitting))]
 pub fn bucket_count(section: &[u8], index: NameIndex) -> Result<u32, Error>
     ensures { outcome result ≡ bucket_count_of section.now index }
 {
@@ -54,7 +54,7 @@ pub fn bucket_count(section: &[u8], index: NameIndex) -> Result<u32, Error>
 }
 
 // The number of names.
-#[tactic(auto, unfolding(crate::specs::Counts::name_count_of))]
+#[tactic(auto, unfolding(crate::specs::Counts::name_count_of, crate::specs::Counts::of_fitting))]
 pub fn name_count(section: &[u8], index: NameIndex) -> Result<u32, Error>
     ensures { outcome result ≡ name_count_of section.now index }
 {
@@ -63,7 +63,7 @@ pub fn name_count(section: &[u8], index: NameIndex) -> Result<u32, Error>
 }
 
 // Whether the index has a hash table.
-#[tactic(auto, unfolding(crate::specs::Counts::has_hash_table))]
+#[tactic(auto, unfolding(crate::specs::Counts::has_hash_table, crate::specs::Counts::of_fitting))]
 pub fn has_hash_table(section: &[u8], index: NameIndex) -> Result<bool, Error>
     ensures { outcome result ≡ has_hash_table section.now index }
 {

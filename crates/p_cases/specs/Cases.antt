@@ -1,5 +1,5 @@
--- SPECIFICATION 16.2: the cases marked P, as a computed list of the definitions. `given` is what the
--- definitions say, `expected` what SPECIFICATION 16.2 says.
+-- SPECIFICATION 16.2: the cases marked P, as a computed list of the definitions. `cases_given` is what the
+-- definitions say, `cases_expected` what SPECIFICATION 16.2 says.
 use Rattle.std.specs.Prelude.{ℕ, ◌≡◌, List, [], ◌∷◌, ◌++◌, length, replicate}
 use Rattle.reader.specs.Outcome.{Outcome, answered, refused}
 use Rattle.reader.specs.declared.reader.Read.{Read}

@@ -33,7 +33,8 @@ Taken A C = Given A C
 -- cursor c, and each next of the cursor that the one before it left.
 pub data Linked {A C : Type 0} (step : C → Step A C) : C → List (Taken A C) → Type 0 where
   no_steps : {c : C} → Linked step c []
-  step_then : {c : C} {t : Taken A C} {ts : List (Taken A C)} → step_of t.answer t.cursor ≡ step c → Linked step t.cursor ts → Linked step c (t ∷ ts)
+  step_then : {c : C} {t : Taken A C} {ts : List (Taken A C)} → step_of t.answer t.cursor ≡ step c → Linked step t.cursor ts
+      → Linked step c (t ∷ ts)
 
 -- what steps answered
 abbrev pub answers : {A C : Type 0} → List (Taken A C) → List (Outcome (Option A))
@@ -58,4 +59,5 @@ up_to_end (refused n v ∷ os) = refused n v ∷ up_to_end os
 -- end is the first step before which all of it is answered: there is an end exactly if there are more steps
 -- than it has elements.
 abbrev pub ListsInOrder : {A : Type 0} → List (Outcome (Option A)) → List (Outcome (Option A)) → Type 0
-ListsInOrder answers expected = (up_to_end answers ≡ take (length answers) expected) × (has_end answers ≡ ltb (length expected) (length answers))
+ListsInOrder answers expected =
+    (up_to_end answers ≡ take (length answers) expected) × (has_end answers ≡ ltb (length expected) (length answers))

@@ -29,32 +29,27 @@ pub record Shown : Type 0 where
   pub unit : ShownUnit
   pub die : Option UnitOffset
 
--- an absent DIE offset is 0, with the flag 0
-abbrev pub with_die : Where → ℕ → ShownUnit → Option UnitOffset → Record
-with_die w tag unit (Some offset) = record {
-  unit_value = unit.value;
-  die_offset = offset;
-  index_offset = w.index;
-  entry_offset = w.entry;
-  name = record { 0 = w.name };
-  tag = tag;
-  unit_kind = unit.kind;
-  has_die_offset = 1;
-}
-with_die w tag unit None = record {
-  unit_value = unit.value;
-  die_offset = record { 0 = 0 };
-  index_offset = w.index;
-  entry_offset = w.entry;
-  name = record { 0 = w.name };
-  tag = tag;
-  unit_kind = unit.kind;
-  has_die_offset = 0;
-}
+-- an absent DIE offset is 0, with the flag 0; one that is there has the flag 1
+abbrev pub die_or_zero : Option UnitOffset → UnitOffset
+die_or_zero (Some offset) = offset
+die_or_zero None = record { 0 = 0 }
+
+abbrev pub die_flag : Option UnitOffset → ℕ
+die_flag (Some offset) = 1
+die_flag None = 0
 
 -- the record of what is shown there
 abbrev pub record_of : Where → Shown → Record
-record_of w what = with_die w what.tag what.unit what.die
+record_of w what = record {
+  unit_value = what.unit.value;
+  die_offset = die_or_zero what.die;
+  index_offset = w.index;
+  entry_offset = w.entry;
+  name = record { 0 = w.name };
+  tag = what.tag;
+  unit_kind = what.unit.kind;
+  has_die_offset = die_flag what.die;
+}
 
 -- a section, in its byte order, and an index of it whose parts are `p`
 module _ (order : RunTimeEndian) (s : Section) where

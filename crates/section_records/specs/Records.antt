@@ -21,7 +21,8 @@ module _ (order : RunTimeEndian) (s strs : Section) (hash : ℕ) (text : List �
   unfoldable pub header_records : Listing NameIndexHeader → Listing Record
   header_records ended = ended
   header_records (broken n v) = broken n v
-  header_records (item h rest) = followed_by (or_broken (opened s (index_of h)) (index_records order s strs hash text h.offset.0)) (header_records rest)
+  header_records (item h rest) =
+      followed_by (or_broken (opened s (index_of h)) (index_records order s strs hash text h.offset.0)) (header_records rest)
 
   -- the records of the headers from a place on
   unfoldable pub headers_left : ℕ → Listing Record

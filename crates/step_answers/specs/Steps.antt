@@ -81,5 +81,11 @@ hash_step_answer from t = hash_answer_at from t.cursor t.answer
 abbrev pub table_answer : Outcome TableCheck → DebugNamesTable
 table_answer (answered TableCheck.NoTable) = record { status = 0; kind = 0; value = 0; name = record { 0 = 0 }; hash = 0 }
 table_answer (answered TableCheck.Complete) = record { status = 0; kind = 1; value = 0; name = record { 0 = 0 }; hash = 0 }
-table_answer (answered (TableCheck.Incomplete lost)) = record { status = 0; kind = 2; value = lost.missed; name = lost.name; hash = lost.hash }
+table_answer (answered (TableCheck.Incomplete lost)) = record {
+  status = 0;
+  kind = 2;
+  value = lost.missed;
+  name = lost.name;
+  hash = lost.hash;
+}
 table_answer (refused n v) = record { status = n; kind = 0; value = v; name = record { 0 = 0 }; hash = 0 }

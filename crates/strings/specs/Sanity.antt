@@ -7,4 +7,5 @@ use Rattle.strings.specs.Strings.{before_zero, get_str, str_bytes}
 
 -- the bytes of an answered string are those before the first zero byte from its offset on
 abbrev pub StringsEndAtZero : Type 0
-StringsEndAtZero = (s : List ℕ) (offset : ℕ) (t : Str) → get_str s offset ≡ answered t → str_bytes s offset ≡ before_zero (drop offset s)
+StringsEndAtZero =
+    (s : List ℕ) (offset : ℕ) (t : Str) → get_str s offset ≡ answered t → str_bytes s offset ≡ before_zero (drop offset s)

@@ -32,7 +32,8 @@ any_above names start_of buckets = ltb 0 (length (filterb (start_above names sta
 -- the hash that is stored for it
 unfoldable pub verdict : (ℕ → ℕ) → List ℕ → TableCheck
 verdict hash_of [] = TableCheck.Complete
-verdict hash_of (name ∷ more) = TableCheck.Incomplete (record { missed = length (name ∷ more); name = record { 0 = name }; hash = hash_of name })
+verdict hash_of (name ∷ more) =
+    TableCheck.Incomplete (record { missed = length (name ∷ more); name = record { 0 = name }; hash = hash_of name })
 
 -- a section, in its byte order
 module _ (order : RunTimeEndian) (s : Section) where

@@ -24,7 +24,8 @@ use Rattle.reader.specs.declared.common.NameTableIndex.{NameTableIndex}
 abbrev pub MissedExactly : Type 0
 MissedExactly =
     (order : RunTimeEndian) (s : List ℕ) (i : NameIndex) (name : ℕ)
-    → (memberb name (missed_names order s i) ≡ true) ↔ ((name < i.name_count) × (memberb name (run order s i (bucket_of i (stored_hash order s (parts i) name))) ≡ false))
+    → (memberb name (missed_names order s i) ≡ true)
+    ↔ ((name < i.name_count) × (memberb name (run order s i (bucket_of i (stored_hash order s (parts i) name))) ≡ false))
 
 -- What the check tells without the name and the hash: that there is no hash table, that it is complete, or
 -- how many names are missed.
@@ -54,7 +55,9 @@ told_before order s i = do
 -- The name and the hash are added to an incomplete answer, and nothing else is changed: no table, complete,
 -- the number of missed names and every refusal are those of the check that tells no more.
 abbrev pub ToldAsBefore : Type 0
-ToldAsBefore = (order : RunTimeEndian) (s : List ℕ) (i : NameIndex) → (table_check order s i >>= λ checked. answered (told_by checked)) ≡ told_before order s i
+ToldAsBefore =
+    (order : RunTimeEndian) (s : List ℕ) (i : NameIndex)
+    → (table_check order s i >>= λ checked. answered (told_by checked)) ≡ told_before order s i
 
 -- Where a name of an index with a hash table is missed, the check says so, or refuses.
 abbrev pub MissedTold : Type 0
@@ -67,7 +70,8 @@ MissedTold =
 -- has a smaller number; and `hash` is the one that is stored for it.
 abbrev pub LostLeast : Type 0
 LostLeast =
-    (order : RunTimeEndian) (s : List ℕ) (i : NameIndex) (lost : Incomplete) → outcome (Ok (TableCheck.Incomplete lost)) ≡ table_check order s i
+    (order : RunTimeEndian) (s : List ℕ) (i : NameIndex) (lost : Incomplete)
+    → outcome (Ok (TableCheck.Incomplete lost)) ≡ table_check order s i
     → (lost.missed ≡ length (missed_names order s i))
     × (memberb lost.name.0 (missed_names order s i) ≡ true)
     × ((name : ℕ) → memberb name (missed_names order s i) ≡ true → lost.name.0 ≤ name)
@@ -88,5 +92,6 @@ ListsWithout order s i hash name =
 -- and the lookup of the hash lists names without it.
 abbrev pub LostNotListed : Type 0
 LostNotListed =
-    (order : RunTimeEndian) (s : List ℕ) (i : NameIndex) (lost : Incomplete) → outcome (Ok (TableCheck.Incomplete lost)) ≡ table_check order s i
+    (order : RunTimeEndian) (s : List ℕ) (i : NameIndex) (lost : Incomplete)
+    → outcome (Ok (TableCheck.Incomplete lost)) ≡ table_check order s i
     → (memberb lost.name.0 (all_storing order s i lost.hash) ≡ true) × ListsWithout order s i lost.hash lost.name.0

@@ -1,7 +1,7 @@
 //! A section made for a handle, so that gimli can read what any handle describes: one header with the handle's numbers, and behind it the
 //! bytes from the handle's begin to its end.
 
-use crate::ffi::IndexHandle;
+use crate::ffi::Index;
 use gimli::bytes::{Order, Writer};
 use gimli::case::Case;
 use gimli::lent::{Bytes, Memory};
@@ -16,7 +16,7 @@ pub struct Copy {
 
 impl Copy {
     /// In a byte order. The handle must fit as a header.
-    pub fn of(case: &Case, order: Order, index: &IndexHandle) -> Copy {
+    pub fn of(case: &Case, order: Order, index: &Index) -> Copy {
         let content = &case.names[index.begin..index.end];
         let wide = index.format == 8;
         let mut out = Writer::new(order);

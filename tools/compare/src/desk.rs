@@ -4,7 +4,7 @@ use std::fmt::Debug;
 use std::process::exit;
 
 use crate::copy::Copy;
-use crate::ffi::{Answer, IndexHandle};
+use crate::ffi::{Answer, Index};
 use crate::name::Name;
 use crate::ours::Ours;
 use crate::tally::{Call, Tally, Told};
@@ -26,7 +26,7 @@ pub struct Desk<'a> {
     pub ours: Ours<'a>,
     pub lent: Lent<'a>,
     /// The handle of the calls that are compared now.
-    pub index: IndexHandle,
+    pub index: Index,
     /// For the choice of the calls.
     pub random: Random,
     pub tally: &'a mut Tally,
@@ -39,7 +39,7 @@ impl<'a> Desk<'a> {
         let lent = memory.lend();
         let order = number_of(case.order, &mut random);
         let ours = Ours { order, names: lent.names.slice(), strings: lent.strings.slice() };
-        let index = IndexHandle::default();
+        let index = Index::default();
         Desk { name, case, order: case.order, ours, lent, index, random, tally, asked: Vec::new() }
     }
 

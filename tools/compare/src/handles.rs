@@ -1,10 +1,10 @@
 //! Handles with other numbers than those that a header gave: most do not fit, some do.
 
-use crate::ffi::IndexHandle;
+use crate::ffi::Index;
 use gimli::random::Random;
 
 /// The handle with one or two numbers changed. `len` is the section's.
-pub fn wrong(random: &mut Random, index: IndexHandle, len: usize) -> IndexHandle {
+pub fn wrong(random: &mut Random, index: Index, len: usize) -> Index {
     let mut index = index;
     for _ in 0..random.pick(&[1, 1, 1, 2]) {
         change(random, &mut index, len);
@@ -12,7 +12,7 @@ pub fn wrong(random: &mut Random, index: IndexHandle, len: usize) -> IndexHandle
     index
 }
 
-fn change(random: &mut Random, index: &mut IndexHandle, len: usize) {
+fn change(random: &mut Random, index: &mut Index, len: usize) {
     match random.below(12) {
         0 => index.format = random.pick(&[0, 1, 2, 3, 5, 7, 9, 12, 16, 0x104, u32::MAX]),
         1 => index.format = if index.format == 4 { 8 } else { 4 },

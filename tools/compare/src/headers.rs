@@ -1,7 +1,7 @@
 //! The steps over the headers of a section, and what else a header says.
 
 use crate::desk::{Desk, refused};
-use crate::ffi::{Answer, Header, HeaderStep, IndexHandle};
+use crate::ffi::{Answer, Header, HeaderStep, Index};
 use crate::indexes;
 use crate::tally::Call;
 use crate::twin::View;
@@ -75,8 +75,8 @@ fn step(view: &View, start: usize, answer: &Stepped, cursor: &NameIndexHeaderIte
 }
 
 /// The handle of a header whose index ends at a place.
-fn handle(header: &NameIndexHeader<Bytes>, end: usize) -> IndexHandle {
-    IndexHandle {
+fn handle(header: &NameIndexHeader<Bytes>, end: usize) -> Index {
+    Index {
         begin: end - left(&format!("{header:?}"), "content"),
         end,
         format: header.format().word_size().into(),

@@ -3,7 +3,7 @@
 use crate::copy::{self, Copy};
 use crate::desk::{Desk, refused};
 use crate::entries;
-use crate::ffi::{Answer, IndexHandle};
+use crate::ffi::{Answer, Index};
 use crate::handles;
 use crate::hashes;
 use crate::layout::{self, Layout};
@@ -26,7 +26,7 @@ const OTHER_ORDER: usize = 4;
 const OPENED: Answer = Answer { status: 0, kind: 1, value: 0 };
 
 /// The index of a header that a step gave, and handles with other numbers, or in the other byte order.
-pub fn of_header(desk: &mut Desk, header: NameIndexHeader<Bytes>, handle: IndexHandle) {
+pub fn of_header(desk: &mut Desk, header: NameIndexHeader<Bytes>, handle: Index) {
     desk.index = handle;
     match NameIndex::new(header) {
         Ok(index) => {
@@ -56,7 +56,7 @@ fn open(desk: &mut Desk, expected: Answer) {
 }
 
 /// The index of any handle: gimli reads a section that is made for it.
-fn by_copy(desk: &mut Desk, handle: IndexHandle) {
+fn by_copy(desk: &mut Desk, handle: Index) {
     desk.index = handle;
     let len = desk.case.names.len();
     if !layout::header_fits(&handle, len) {

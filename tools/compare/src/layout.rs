@@ -1,7 +1,7 @@
 //! Document 01's words on where the parts of an index lie, and when a header and an index fit a section. Places are counted in 128 bits,
 //! so that no sum is too large.
 
-use crate::ffi::IndexHandle;
+use crate::ffi::Index;
 
 /// The places where the eight parts and the pool begin, and where the pool ends.
 pub struct Layout {
@@ -11,7 +11,7 @@ pub struct Layout {
 
 impl Layout {
     /// None where the format is neither 4 nor 8.
-    pub fn of(index: &IndexHandle) -> Option<Layout> {
+    pub fn of(index: &Index) -> Option<Layout> {
         let word = match index.format {
             4 => 4,
             8 => 8,
@@ -49,11 +49,11 @@ impl Layout {
 }
 
 /// The part after the augmentation lies inside the section.
-pub fn header_fits(index: &IndexHandle, len: usize) -> bool {
+pub fn header_fits(index: &Index, len: usize) -> bool {
     Layout::of(index).is_some() && index.begin <= index.end && index.end <= len
 }
 
 /// The eight parts and the pool follow one another in order and end inside the section.
-pub fn fits(index: &IndexHandle, len: usize) -> bool {
+pub fn fits(index: &Index, len: usize) -> bool {
     Layout::of(index).is_some_and(|layout| layout.places[8] <= layout.end && layout.end <= len as u128)
 }

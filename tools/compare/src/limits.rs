@@ -1,7 +1,7 @@
 //! Sections of 2,147,483,647 bytes, and of one more, which is refusal 13. They are zeros that nobody reads, so they need little memory.
 
 use crate::desk::{Desk, refused};
-use crate::ffi::{Header, HeaderStep, IndexHandle, Record, Str};
+use crate::ffi::{Header, HeaderStep, Index, Record, Str};
 use crate::misfits;
 use crate::name::Name;
 use crate::numbers::{DebugStrOffset, NameTableIndex};
@@ -38,9 +38,9 @@ pub fn too_long(tally: &mut Tally) {
 /// A too long .debug_names is 13 for every call, whatever the handle is.
 fn long_names(desk: &mut Desk, zeros: &'static [u8]) {
     desk.ours.names = zeros;
-    let fitting = IndexHandle { format: 4, end: 100, name_count: 3, ..IndexHandle::default() };
-    let misfit = IndexHandle { end: LONGEST + 2, ..fitting };
-    for index in [fitting, misfit, IndexHandle::default()] {
+    let fitting = Index { format: 4, end: 100, name_count: 3, ..Index::default() };
+    let misfit = Index { end: LONGEST + 2, ..fitting };
+    for index in [fitting, misfit, Index::default()] {
         desk.index = index;
         desk.same(Call::Open, String::new, desk.ours.open(index), refused(13));
         misfits::refuse_all(desk, 13);
@@ -62,7 +62,7 @@ fn long_strings(desk: &mut Desk, zeros: &'static [u8]) {
     for offset in [0, LONGEST, LONGEST + 1, usize::MAX] {
         desk.same(Call::GetStr, || format!("offset {offset}"), desk.ours.get_str(DebugStrOffset(offset)), refused);
     }
-    for index in [IndexHandle { format: 4, ..IndexHandle::default() }, IndexHandle::default()] {
+    for index in [Index { format: 4, ..Index::default() }, Index::default()] {
         desk.index = index;
         desk.same(Call::NameString, || "name 0".to_string(), desk.ours.name_string(index, NameTableIndex(0)), refused);
     }

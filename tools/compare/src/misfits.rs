@@ -1,14 +1,14 @@
 //! All calls on a handle where each is refused alike: one that does not fit, or any handle with a section that is too long.
 
 use crate::desk::{Desk, refused};
-use crate::ffi::{Answer, BucketStep, HashCursor, HashStep, IndexHandle, Str, Table};
+use crate::ffi::{Answer, BucketStep, HashCursor, HashStep, Index, Str, Table};
 use crate::numbers::{NameEntryOffset, NameTableIndex};
 use crate::ours::Ours;
 use crate::tally::Call;
 use crate::twin::refused_entry;
 
 /// A call on a handle with a number behind it.
-type Numbered = fn(&Ours, IndexHandle, u32) -> Answer;
+type Numbered = fn(&Ours, Index, u32) -> Answer;
 
 const CALLS: [(Call, Numbered); 15] = [
     (Call::CompileUnitCount, |ours, index, _| ours.compile_unit_count(index)),

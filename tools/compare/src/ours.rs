@@ -14,7 +14,7 @@ pub struct Ours<'a> {
 /// The methods of functions that take the section and a handle alone.
 macro_rules! plain {
     ($($name:ident $function:ident)+) => {
-        $(pub fn $name(&self, index: IndexHandle) -> Answer {
+        $(pub fn $name(&self, index: Index) -> Answer {
             unsafe { $function(self.names.as_ptr(), self.names.len(), index) }
         })+
     };
@@ -23,7 +23,7 @@ macro_rules! plain {
 /// Those of functions that take the byte order, the section, a handle, and numbers behind them.
 macro_rules! ordered {
     ($($name:ident $function:ident ($($argument:ident: $type:ty),*) -> $answer:ty)+) => {
-        $(pub fn $name(&self, index: IndexHandle, $($argument: $type),*) -> $answer {
+        $(pub fn $name(&self, index: Index, $($argument: $type),*) -> $answer {
             unsafe { $function(self.order, self.names.as_ptr(), self.names.len(), index, $($argument),*) }
         })+
     };
@@ -66,7 +66,7 @@ impl Ours<'_> {
         name_entry debug_names_name_entry(offset: NameEntryOffset) -> Entry
     }
 
-    pub fn name_string(&self, index: IndexHandle, name: NameTableIndex) -> Str {
+    pub fn name_string(&self, index: Index, name: NameTableIndex) -> Str {
         let (names, strings) = (self.names, self.strings);
         unsafe { debug_names_name_string(self.order, names.as_ptr(), names.len(), strings.as_ptr(), strings.len(), index, name) }
     }
