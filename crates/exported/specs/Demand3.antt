@@ -7,7 +7,7 @@
 -- `exported_finds` of proofs/QueryLaws.antt prove them. Order, index and cursor are the caller's numbers; the
 -- contracts of the exported steps are by the definitions below. `s` is .debug_names and `strs` is .debug_str;
 -- `text` has the bytes of the name that is asked for.
-use Rattle.std.specs.Prelude.{ℕ, ◌≤◌, ◌≡◌, cond, List, [], ◌∷◌, ◌++◌, map, length, take, drop, eqb, Option, Some, None}
+use Rattle.std.specs.Prelude.{ℕ, ◌≤◌, ◌≡◌, cond, List, [], ◌∷◌, ◌++◌, map, eqb, Option, Some, None}
 use Rattle.reader.specs.Outcome.{Outcome, answered, refused}
 use Rattle.reader.specs.Listing.{answers_of}
 use Rattle.reader.specs.Steps.{ListsInOrder}

@@ -22,7 +22,7 @@ use Rattle.names.specs.Declarations.{get_abbreviation}
 use Rattle.forms.specs.Forms.{as_flag, as_unsigned, as_offset, form_value}
 use Rattle.attributes.specs.Attributes.{values, first}
 use Rattle.attributes.specs.Meaning.{die_offset_of, die_offset_in, parent_of, parent_in}
-use Rattle.entries.specs.Facts.{entry_die_offset, entry_parent}
+use Rattle.entries.specs.Facts.{fact_of, entry_die_offset, entry_parent}
 use Rattle.reader.specs.Lists.{numbers_from, filterb, take_while, memberb}
 use Rattle.hashes.specs.Table.{nth_of, stored_start, stored_hash, bucket_of, names_from, run_from, examined_from, from_start, run, examined, storing}
 use Rattle.hashes.specs.Lookups.{find_by_bucket, find_by_hash, first_or, next_in_bucket, next_storing, bucket_step, hash_step}
@@ -86,7 +86,7 @@ unfolding case_a index_a entry_step step_in moved series_entry entry values firs
 steps_of_a_lem = step_then refl (step_then refl (step_then refl no_steps))
 
 pub facts_of_a : FactsOfA
-unfolding case_a index_a entry_die_offset entry_parent die_offset_of die_offset_in parent_of parent_in entry entry_at_handle values first form_value as_flag as_unsigned as_offset read_byte find table listing declaration with_attributes head attributes attributes_in pair leb128 number_of_bytes number_bytes complete base128 fitted parts place places_from sizes word_bytes hash_bytes longest read_number skipped spelled digits
+unfolding case_a index_a fact_of entry_die_offset entry_parent die_offset_of die_offset_in parent_of parent_in entry entry_at_handle values first form_value as_flag as_unsigned as_offset read_byte find table listing declaration with_attributes head attributes attributes_in pair leb128 number_of_bytes number_bytes complete base128 fitted parts place places_from sizes word_bytes hash_bytes longest read_number skipped spelled digits
 facts_of_a = (refl, refl)
 
 pub buckets_of_a : BucketsOfA

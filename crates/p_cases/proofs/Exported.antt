@@ -6,7 +6,7 @@ use Rattle.abbreviations.specs.Abbreviations.{attributes, attributes_in, declara
 use Rattle.answers.specs.Answers.{count_answer, handed, refused_answer}
 use Rattle.attributes.specs.Attributes.{facts, first, values}
 use Rattle.attributes.specs.Meaning.{compile_unit_of, die_offset_in, die_offset_of, numbered_type_unit, numbered_unit, parent_in, parent_of, type_hash_in, type_hash_of, type_unit_of, unit_number, unit_number_in}
-use Rattle.entries.specs.Facts.{entry_compile_unit, entry_die_offset, entry_parent, entry_type_hash, entry_type_unit}
+use Rattle.entries.specs.Facts.{fact_of, entry_compile_unit, entry_die_offset, entry_parent, entry_type_hash, entry_type_unit}
 use Rattle.entry_answers.specs.Entry.{entry_step_answer, facts_at, no_facts}
 use Rattle.exported.proofs.EntryLaws.{exported-entries}
 use Rattle.exported.proofs.LookupLaws.{exported-buckets, exported-hashes}
@@ -85,7 +85,7 @@ unfolding case_a handle_a order_of index_from with_format name_entries first_ent
 entries_given = refl
 
 pub entry_calls_of_a_lem : EntryCallsOfA
-unfolding case_a handle_a order_of index_from with_format entry_step step_in moved series_entry entry values first form_value as_flag as_unsigned as_offset read_byte find table listing declaration with_attributes head attributes attributes_in pair leb128 number_of_bytes number_bytes complete base128 fitted parts place places_from sizes word_bytes hash_bytes longest read_number skipped spelled digits entry_step_answer facts_at no_facts entry_compile_unit entry_type_unit entry_type_hash compile_unit_of compile_unit_in unit_in type_unit_of type_unit_in local_type_unit_in foreign_type_unit_in type_hash_of type_hash_in unit_number numbered_unit numbered_type_unit entry_die_offset entry_parent die_offset_of die_offset_in parent_of parent_in entry_at_handle
+unfolding case_a handle_a order_of index_from with_format entry_step step_in moved series_entry entry values first form_value as_flag as_unsigned as_offset read_byte find table listing declaration with_attributes head attributes attributes_in pair leb128 number_of_bytes number_bytes complete base128 fitted parts place places_from sizes word_bytes hash_bytes longest read_number skipped spelled digits entry_step_answer facts_at no_facts entry_compile_unit entry_type_unit entry_type_hash compile_unit_of compile_unit_in unit_in type_unit_of type_unit_in local_type_unit_in foreign_type_unit_in type_hash_of type_hash_in unit_number numbered_unit numbered_type_unit fact_of entry_die_offset entry_parent die_offset_of die_offset_in parent_of parent_in entry_at_handle
 entry_calls_of_a_lem = call_then refl (call_then refl no_calls)
 
 pub entries_listed : EntriesListed

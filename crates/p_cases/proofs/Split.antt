@@ -19,7 +19,7 @@ use Rattle.index.specs.Open.{passed_over, cut_parts}
 use Rattle.forms.specs.Forms.{as_unsigned, as_offset, form_value}
 use Rattle.attributes.specs.Attributes.{values, first, facts}
 use Rattle.attributes.specs.Meaning.{unit_number_in, unit_number, numbered_unit, numbered_type_unit, compile_unit_of, type_unit_of, die_offset_in, die_offset_of}
-use Rattle.entries.specs.Facts.{entry_compile_unit, entry_type_unit}
+use Rattle.entries.specs.Facts.{fact_of, entry_compile_unit, entry_type_unit}
 use Rattle.hashes.specs.Table.{names_from}
 use Rattle.tables.specs.Check.{table_check}
 use Rattle.records.specs.Units.{type_shown, entry_unit}
@@ -66,5 +66,5 @@ pub split_listed : SplitListed
 split_listed = demand3.query _ split_units strings_a 7 de (old ∷ []) _ 1 open_split all_open_split complete_split (sym found_in_split)
 
 pub split_facts : SplitFacts
-unfolding split_units split_index entry_compile_unit entry_type_unit entry_at_handle entry values first form_value as_unsigned as_offset read_byte find fitted table listing declaration with_attributes head attributes attributes_in pair leb128 number_of_bytes number_bytes complete base128 read_number skipped spelled digits parts place places_from sizes word_bytes hash_bytes longest compile_unit_of compile_unit_in unit_in type_unit_of type_unit_in local_type_unit_in foreign_type_unit_in unit_number unit_number_in numbered_unit numbered_type_unit nth_compile_unit nth_word nth_type_unit foreign_type_unit
+unfolding split_units split_index fact_of entry_compile_unit entry_type_unit entry_at_handle entry values first form_value as_unsigned as_offset read_byte find fitted table listing declaration with_attributes head attributes attributes_in pair leb128 number_of_bytes number_bytes complete base128 read_number skipped spelled digits parts place places_from sizes word_bytes hash_bytes longest compile_unit_of compile_unit_in unit_in type_unit_of type_unit_in local_type_unit_in foreign_type_unit_in unit_number unit_number_in numbered_unit numbered_type_unit nth_compile_unit nth_word nth_type_unit foreign_type_unit
 split_facts = (refl, refl)
