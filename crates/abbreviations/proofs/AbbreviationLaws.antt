@@ -476,16 +476,6 @@ pub parsed_found : (s : List ℕ) (at end : ℕ) → parsed s at end ≡ (found 
 unfolding parsed found table
 parsed_found s at end = parsed_in (part_end s end - at) s at end
 
--- a head and the pairs after it move forward
-pub parts_forward : (s : List ℕ) (at end : ℕ) (h : Head) (next : ℕ) → head s at end ≡ answered (Some h) → attributes_end s h.next end ≡ answered next → Forward s at end next
-unfolding attributes_end
-parts_forward s at end h next read skipped =
-    let (ahead, inside) = head-forward s at end h read in
-    let (a, pairs, same) = bind_answered (attributes s h.next end) _ next skipped in
-    let (further, within) = attributes-forward s h.next end a pairs in
-    let past : next ≡ a.next = sym (same_answer same) in
-    (omega arith, omega arith)
-
 -- the table looks at no byte outside its part: pairs, heads, declarations and so the table are the same in sections with the same
 -- bytes there
 pair_part : (s t : List ℕ) (at end : ℕ) → slice at end s ≡ slice at end t → pair s at end ≡ pair t at end

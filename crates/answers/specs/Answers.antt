@@ -1,8 +1,10 @@
 -- Outcomes as answers of one number (SPECIFICATION 15.3 and 15.4). A refusal has its number as status,
 -- kind 0, and its value. What is answered has status 0, a kind and a value; where there is none, all three
--- are 0. Of units, kind 1 is a compile unit, 2 a local type unit and 3 a foreign one; of all else the kind
--- is 1. The value is the offset or the signature of a unit, a count, 1 or 0 of a test, a string offset, the
--- number of a bucket's first name, or the place of a name's first entry; of an opened index it is 0.
+-- are 0. Of units, kind 1 is a compile unit, 2 a local type unit and 3 a foreign one; of all else that this
+-- file hands over the kind is 1 (the kinds of a parent are in Entry of `entry_answers`). The value is the
+-- offset or the signature of a unit, a count, 1 or 0 of a test, a string offset, the number of a bucket's
+-- first name, or the place of a name's first entry; of an opened index it is 0. The contracts of
+-- `crates/debug_names/src` say which of these each exported call hands over, and of which definition.
 use Rattle.std.specs.Prelude.{ℕ, Bool, cond, Option, Some, None}
 use Rattle.reader.specs.Outcome.{Outcome, answered, refused}
 use Rattle.reader.specs.declared.common.DebugInfoOffset.{DebugInfoOffset}

@@ -22,7 +22,8 @@ use Rattle.forms.specs.declared.NameAttributeValue.{NameAttributeValue}
 use Rattle.attributes.specs.declared.attribute.FirstAttribute.{FirstAttribute}
 use Rattle.attributes.specs.declared.facts.Facts.{Facts}
 use Rattle.attributes.specs.Meaning.{unit_number_in, unit_number}
-use Rattle.attributes.specs.Sanity.{ValuesDeclared, EntryValuesOnward, stands, StandsExactly}
+use Rattle.attributes.specs.Sanity.{EntryValuesOnward, stands, StandsExactly}
+use Rattle.attributes.specs.Inner.{ValuesDeclared}
 use Rattle.attributes.specs.Attributes.{NameAttribute, Values, value_then, values, kept, first, compile_unit_name, type_unit_name, die_offset_name, parent_name, type_hash_name, facts}
 use Rattle.attributes.specs.Inner.{values_in, values_from, facts_read}
 use Rattle.reader.specs.declared.reader.Read.{Read}

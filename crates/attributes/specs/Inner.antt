@@ -1,17 +1,17 @@
 -- What only the code needs: what single functions of it answer or leave. A reader of the other files need not
 -- know these.
-use Rattle.std.specs.Prelude.{ℕ, zero, suc, cond, [], eqb}
+use Rattle.std.specs.Prelude.{ℕ, zero, suc, ◌≡◌, cond, [], eqb}
 use Rattle.reader.specs.Outcome.{Outcome, answered, ◌>>=◌}
 use Rattle.reader.specs.Parts.{left_at}
 use Rattle.reader.specs.declared.endianity.RunTimeEndian.{RunTimeEndian}
-use Rattle.abbreviations.specs.Abbreviations.{pair}
+use Rattle.abbreviations.specs.Abbreviations.{Attributes, pair, attributes}
 use Rattle.forms.specs.Forms.{form_value}
 use Rattle.attributes.specs.declared.facts.Facts.{Facts}
 use Rattle.reader.specs.declared.reader.Read.{Read}
 use Rattle.reader.specs.Errors.{refusal}
 use Rattle.reader.specs.declared.error.Error.TheVariants.{UnexpectedEof}
 use Rattle.reader.specs.Parts.{Section}
-use Rattle.attributes.specs.Attributes.{Values, facts, value_then}
+use Rattle.attributes.specs.Attributes.{Values, values, facts, value_then}
 
 -- What single functions of the code answer, for any places. The values, where the pairs of name and form are
 -- read from `pairs` on as they are needed: a pair that is refused gives its refusal when its turn comes. For
@@ -38,3 +38,10 @@ module _ (order : RunTimeEndian) (s : Section) where
   facts_read pairs pairsEnd at end = do
     v ← values_from pairs pairsEnd at end
     answered (record { value = facts v.list; next = v.next })
+
+-- where the pairs of a declaration can all be read, reading them as they are needed is reading the values of
+-- its attributes
+abbrev pub ValuesDeclared : Type 0
+ValuesDeclared =
+    (order : RunTimeEndian) (s : Section) (pairs pairsEnd : ℕ) (a : Attributes) (at end : ℕ) → attributes s pairs pairsEnd ≡ answered a
+    → values_from order s pairs pairsEnd at end ≡ values order s a.list at end

@@ -3,25 +3,17 @@
 -- (SPECIFICATION 9.2 and 9.8). The laws of proofs/AttributeLaws.antt that have these types prove them.
 use Rattle.std.specs.Prelude.{ℕ, ◌≤◌, ◌≡◌, Bool, true, false, List, map, Option, Some, None}
 use Rattle.reader.specs.Outcome.{answered}
-use Rattle.reader.specs.Parts.{part_end}
+use Rattle.reader.specs.Parts.{Section, part_end}
 use Rattle.reader.specs.Lists.{memberb}
 use Rattle.reader.specs.declared.endianity.RunTimeEndian.{RunTimeEndian}
-use Rattle.abbreviations.specs.Abbreviations.{Attribute, Attributes, attributes}
+use Rattle.abbreviations.specs.Abbreviations.{Attribute}
 use Rattle.attributes.specs.declared.attribute.FirstAttribute.{FirstAttribute}
 use Rattle.attributes.specs.Attributes.{NameAttribute, Values, values, first}
-use Rattle.attributes.specs.Inner.{values_from}
-
--- where the pairs of a declaration can all be read, reading them as they are needed is reading the values of
--- its attributes
-abbrev pub ValuesDeclared : Type 0
-ValuesDeclared =
-    (order : RunTimeEndian) (s : List ℕ) (pairs pairsEnd : ℕ) (a : Attributes) (at end : ℕ) → attributes s pairs pairsEnd ≡ answered a
-    → values_from order s pairs pairsEnd at end ≡ values order s a.list at end
 
 -- the values of an entry that begin inside a part do not go back and stay inside
 abbrev pub EntryValuesOnward : Type 0
 EntryValuesOnward =
-    (order : RunTimeEndian) (s : List ℕ) (list : List Attribute) (at end : ℕ) (v : Values) → at ≤ part_end s end
+    (order : RunTimeEndian) (s : Section) (list : List Attribute) (at end : ℕ) (v : Values) → at ≤ part_end s end
     → values order s list at end ≡ answered v
     → (at ≤ v.next) × (v.next ≤ part_end s end)
 

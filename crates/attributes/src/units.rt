@@ -1,6 +1,7 @@
 // The unit that an attribute names (gimli's `NameAttribute::compile_unit` and `NameAttribute::type_unit`): its number, which is then
-// resolved in the index, whose parts are `p`. The two calls differ in what they read and answer, and share `unit_number`. The unit stands apart from the attribute, so that a walk over parents meets no refusal of a unit.
-// (order, section, index) stay parameters: with a struct that lends the section, contracts are no plainer (docs/DECISIONS.md).
+// resolved in the index that fits, whose parts are `p`. The two differ in what they read and answer, and share `unit_number`. The unit
+// stands apart from the attribute, so that a walk over parents meets no refusal of a unit.
+// (order, section, p) stay parameters: with a struct that lends the section, contracts are no plainer (docs/DECISIONS.md).
 ghost use Rattle.std.specs.Prelude.{◌≡◌};
 ghost use Rattle.reader.specs.Answers.{outcome};
 ghost use Rattle.attributes.specs.Meaning.{compile_unit_of, type_unit_of};

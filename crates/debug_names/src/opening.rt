@@ -35,7 +35,7 @@ pub extern "C" fn debug_names_header_at(order: u32, section: &[u8], at: usize) -
     )
 }
 
-// Opens the index that a header describes.
+// Opens the index of a handle.
 #[unsafe(no_mangle)]
 pub extern "C" fn debug_names_open(section: &[u8], index: DebugNamesIndex) -> DebugNamesAnswer
     ensures { result ≡ open_call section.now index }

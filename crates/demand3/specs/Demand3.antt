@@ -27,6 +27,7 @@ use Rattle.query.specs.Query.{section_query}
 use Rattle.demand3.specs.Expected.{OpenIndex, expected}
 use Rattle.reader.specs.Answers.{outcome}
 use Rattle.headers.specs.declared.headers.NameIndexHeaderIter.{NameIndexHeaderIter}
+use Rattle.reader.specs.Parts.{Section}
 
 -- what the code's steps over the headers answered
 abbrev pub header_answers : List (Taken NameIndexHeader NameIndexHeaderIter) → List (Outcome (Option NameIndexHeader))
@@ -39,16 +40,16 @@ pub data Each {A : Type 0} (claim : A → Type 0) : List A → Type 0 where
 
 -- The indexes all open, and these are they: linked header steps of the code from place 0 reach the end, and
 -- up to it answer their headers, without refusal; and `NameIndex::new` takes each header.
-abbrev pub AllOpen : RunTimeEndian → List ℕ → List OpenIndex → Type 0
-AllOpen order s opened =
+abbrev pub AllOpen : RunTimeEndian → Section → List OpenIndex → Type 0
+AllOpen order s indexes =
     ((steps : List (Taken NameIndexHeader NameIndexHeaderIter))
     × Linked (header_step order s) first_header steps
     × (has_end (header_answers steps) ≡ true)
-    × (up_to_end (header_answers steps) ≡ map (λ o. answered (Some o.header)) opened))
-    × Each (λ o. outcome (Ok o.index) ≡ name_index s o.header) opened
+    × (up_to_end (header_answers steps) ≡ map (λ o. answered (Some o.header)) indexes))
+    × Each (λ o. outcome (Ok o.index) ≡ name_index s o.header) indexes
 
 -- the table check says that an index is complete, or that it has no hash table
-abbrev pub CompleteOrNoTable : RunTimeEndian → List ℕ → OpenIndex → Type 0
+abbrev pub CompleteOrNoTable : RunTimeEndian → Section → OpenIndex → Type 0
 CompleteOrNoTable order s o =
     (outcome (Ok TableCheck.Complete) ≡ table_check order s o.index) ⊎ (outcome (Ok TableCheck.NoTable) ≡ table_check order s o.index)
 
@@ -62,12 +63,12 @@ Finds wanted total lent after =
 -- The third part: a query that is not refused finds what is expected.
 abbrev pub QueryFinds : Type 0
 QueryFinds =
-    (order : RunTimeEndian) (s strs : List ℕ) (hash : ℕ) (text : List ℕ) (lent after : List Record) (total : ℕ)
-    (opened : List OpenIndex)
-    → AllOpen order s opened
-    → Each (CompleteOrNoTable order s) opened
+    (order : RunTimeEndian) (s strs : Section) (hash : ℕ) (text : List ℕ) (lent after : List Record) (total : ℕ)
+    (indexes : List OpenIndex)
+    → AllOpen order s indexes
+    → Each (CompleteOrNoTable order s) indexes
     → record { answer = outcome (Ok total); records = after } ≡ section_query order s strs hash text lent
-    → Finds (expected order s strs hash text opened) total lent after
+    → Finds (expected order s strs hash text indexes) total lent after
 
 -- demand 3, in its three parts
 pub record Demand3 : Type 0 where

@@ -30,7 +30,7 @@ pub record OpenIndex : Type 0 where
   pub index : NameIndex
 
 -- a string that cannot be read equals nothing
-abbrev pub reads_as : List ℕ → List ℕ → Outcome Str → Bool
+abbrev pub reads_as : Section → List ℕ → Outcome Str → Bool
 reads_as strs text (answered t) = text_is strs text t
 reads_as strs text (refused n v) = false
 
@@ -63,4 +63,4 @@ module _ (order : RunTimeEndian) (s strs : Section) (hash : ℕ) (text : List �
 
   -- and those of all indexes, in order
   unfoldable pub expected : List OpenIndex → List (Outcome Record)
-  expected opened = flat_map records_of_index opened
+  expected indexes = flat_map records_of_index indexes

@@ -28,7 +28,8 @@ use Rattle.index.specs.Words.{nth_word}
 use Rattle.entries.specs.declared.entry.NameEntry.{NameEntry}
 use Rattle.entries.specs.declared.entry.WholeEntry.{WholeEntry}
 use Rattle.entries.specs.declared.series.NameEntryIter.{NameEntryIter}
-use Rattle.entries.specs.Sanity.{pool_length, SeriesUnfold, SeriesShort, HandlesLead, HandlesTell}
+use Rattle.entries.specs.Sanity.{pool_length, SeriesUnfold, SeriesShort, HandlesLead}
+use Rattle.entries.specs.Inner.{HandlesTell}
 use Rattle.entries.specs.Demand3.{EntryLookups}
 use Rattle.entries.specs.declared.entry.EntryAt.{EntryAt}
 use Rattle.entries.specs.Entries.{Entry, entry, entry_at_handle, name_entry, as_name_entry}

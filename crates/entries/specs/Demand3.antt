@@ -1,6 +1,6 @@
 -- Demand 3, that nothing is left off a list, for entry lookups: one theorem about lists of steps of any
 -- length (SPECIFICATION 14.4). The law `entry-lookups` of proofs/SeriesLaws.antt proves it.
-use Rattle.std.specs.Prelude.{ℕ, ◌≡◌, List, Ok}
+use Rattle.std.specs.Prelude.{◌≡◌, List, Ok}
 use Rattle.reader.specs.Listing.{answers_of}
 use Rattle.reader.specs.Steps.{Linked, ListsInOrder, answers, Taken}
 use Rattle.reader.specs.declared.endianity.RunTimeEndian.{RunTimeEndian}
@@ -11,6 +11,7 @@ use Rattle.entries.specs.Entries.{as_name_entry}
 use Rattle.entries.specs.Series.{series, name_entries, entry_step}
 use Rattle.reader.specs.Answers.{outcome}
 use Rattle.entries.specs.declared.entry.NameEntry.{NameEntry}
+use Rattle.reader.specs.Parts.{Section}
 
 -- If `name_entries` gave the cursor c for a name, then whatever list of steps follows, each given the cursor
 -- that `name_entries` or the step before it gave: their answers up to the first end are the beginning of the
@@ -19,7 +20,7 @@ use Rattle.entries.specs.declared.entry.NameEntry.{NameEntry}
 -- (`ListsInOrder`).
 abbrev pub EntryLookups : Type 0
 EntryLookups =
-    (order : RunTimeEndian) (s : List ℕ) (i : NameIndex) (name : NameTableIndex) (c : NameEntryIter)
+    (order : RunTimeEndian) (s : Section) (i : NameIndex) (name : NameTableIndex) (c : NameEntryIter)
     (steps : List (Taken NameEntry NameEntryIter))
     → outcome (Ok c) ≡ name_entries order s i name
     → Linked (entry_step order s i) c steps

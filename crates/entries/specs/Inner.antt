@@ -1,6 +1,6 @@
 -- What only the code needs: what single functions of it answer or leave. A reader of the other files need not
 -- know these.
-use Rattle.std.specs.Prelude.{ℕ}
+use Rattle.std.specs.Prelude.{ℕ, ◌≡◌}
 use Rattle.std.specs.Prelude.{Option, Some, None}
 use Rattle.reader.specs.Outcome.{Outcome, answered, ◌>>=◌}
 use Rattle.reader.specs.declared.endianity.RunTimeEndian.{RunTimeEndian}
@@ -53,3 +53,10 @@ module _ (order : RunTimeEndian) (s : Section) where
   -- the step over a series that shows its entries so
   unfoldable pub whole_step : Parts → NameEntryIter → Step EntryAt NameEntryIter
   whole_step p c = step_in order s as_entry_at p c
+
+-- what such a step tells of an entry is what is read again from its handle
+abbrev pub HandlesTell : Type 0
+HandlesTell =
+    (order : RunTimeEndian) (s : Section) (p : Parts) (c : NameEntryIter) (t : EntryAt)
+    → (whole_step order s p c).answer ≡ answered (Some t)
+    → whole_entry order s p t.offset ≡ answered t.entry

@@ -7,8 +7,7 @@
 -- at the pool's start.
 -- The step, `NameEntryIter::next`: 13; 14 of the index; 14 where the cursor lies before the pool or behind
 -- its end. Then it answers the entry at the cursor, and the cursor is past it; or the end, at the pool's end
--- or at a code 0, or the entry's refusal, and the cursor is at the pool's end. `next_whole` tells of an entry
--- the first attribute of each of the five names, too.
+-- or at a code 0, or the entry's refusal, and the cursor is at the pool's end.
 -- In DWARF 5 a series ends with code 0; here, as in gimli, it may also end with the pool.
 use Rattle.std.specs.Prelude.{ℕ, ◌-◌, cond, ltb, eqb}
 use Rattle.std.specs.Prelude.{Option, Some, None}

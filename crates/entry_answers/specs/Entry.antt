@@ -3,7 +3,8 @@
 -- value, its code, its tag and its facts; `next` is the cursor after a step, and 0 where the entry was asked
 -- for by its handle. Each fact is an answer of its own, with status, kind and value, and may be refused where
 -- the entry is not. Of a parent kind 0 is not known, 1 an entry, by its handle, and 2 no parent. At the end
--- of a series all but `next` is 0; of a refused entry each fact has its status and its value.
+-- of a series all but `next` is 0; a refused entry has
+-- its refusal's number as status and its value, and so has each of its facts; kind, code and tag are 0.
 use Rattle.std.specs.Prelude.{ℕ}
 use Rattle.std.specs.Prelude.{Option, Some, None}
 use Rattle.reader.specs.Outcome.{Outcome, answered, refused}
@@ -47,16 +48,6 @@ abbrev pub type_hash_fact : Option ℕ → DebugNamesAnswer
 type_hash_fact (Some h) = given 1 h
 type_hash_fact None = nothing
 
--- the facts of the entry with a handle
-unfoldable pub facts_at : RunTimeEndian → Section → NameIndex → NameEntryOffset → DebugNamesFacts
-facts_at order s i offset = record {
-  compile_unit = handed compile_unit_fact (entry_compile_unit order s i offset);
-  type_unit = handed type_unit_fact (entry_type_unit order s i offset);
-  die_offset = handed die_offset_fact (entry_die_offset order s i offset);
-  parent = handed parent_fact (entry_parent order s i offset);
-  type_hash = handed type_hash_fact (entry_type_hash order s i offset);
-}
-
 -- no facts, and those of a refused entry
 unfoldable pub no_facts : DebugNamesFacts
 no_facts = record { compile_unit = nothing; type_unit = nothing; die_offset = nothing; parent = nothing; type_hash = nothing }
@@ -92,14 +83,27 @@ abbrev pub entry_answer_in : DebugNamesFacts → Outcome NameEntry → DebugName
 entry_answer_in facts (answered e) = shown_entry facts 0 e
 entry_answer_in facts (refused n v) = refused_entry 0 n v
 
-unfoldable pub entry_answer : RunTimeEndian → Section → NameIndex → NameEntryOffset → DebugNamesEntry
-entry_answer order s i offset = entry_answer_in (facts_at order s i offset) (name_entry order s i offset)
-
 -- a step: its entry with the facts that its handle has
 abbrev pub entry_step_in : (NameEntryOffset → DebugNamesFacts) → ℕ → Outcome (Option NameEntry) → DebugNamesEntry
 entry_step_in facts next (answered (Some e)) = shown_entry (facts e.offset) next e
 entry_step_in facts next (answered None) = ended_series next
 entry_step_in facts next (refused n v) = refused_entry next n v
 
-unfoldable pub entry_step_answer : RunTimeEndian → Section → NameIndex → NameEntryIter → DebugNamesEntry
-entry_step_answer order s i c = entry_step_in (facts_at order s i) (entry_step order s i c).cursor.at (entry_step order s i c).answer
+-- a section, in its byte order
+module _ (order : RunTimeEndian) (s : Section) where
+  -- the facts of the entry with a handle
+  unfoldable pub facts_at : NameIndex → NameEntryOffset → DebugNamesFacts
+  facts_at i offset = record {
+    compile_unit = handed compile_unit_fact (entry_compile_unit order s i offset);
+    type_unit = handed type_unit_fact (entry_type_unit order s i offset);
+    die_offset = handed die_offset_fact (entry_die_offset order s i offset);
+    parent = handed parent_fact (entry_parent order s i offset);
+    type_hash = handed type_hash_fact (entry_type_hash order s i offset);
+  }
+
+  -- `debug_names_name_entry`, and `debug_names_next_entry`
+  unfoldable pub entry_answer : NameIndex → NameEntryOffset → DebugNamesEntry
+  entry_answer i offset = entry_answer_in (facts_at i offset) (name_entry order s i offset)
+
+  unfoldable pub entry_step_answer : NameIndex → NameEntryIter → DebugNamesEntry
+  entry_step_answer i c = entry_step_in (facts_at i) (entry_step order s i c).cursor.at (entry_step order s i c).answer

@@ -41,6 +41,7 @@ use Rattle.entry_answers.specs.Entry.{entry_step_answer}
 use Rattle.demand3.specs.Expected.{OpenIndex, expected}
 use Rattle.demand3.specs.Demand3.{Each, AllOpen, CompleteOrNoTable, Finds}
 use Rattle.exported.specs.Query.{query_answer}
+use Rattle.reader.specs.Parts.{Section}
 
 -- a list of what an exported step answered: the first from the cursor c, and each next from the `next` of the
 -- one before it
@@ -65,14 +66,14 @@ told_by_entry t = told t.status t.kind t.value (record { offset = record { 0 = t
 
 -- What the exported steps hand over of a caller's cursor: `debug_names_next_in_bucket` of the number of a
 -- name, `debug_names_next_by_hash` of a hash cursor, and `debug_names_next_entry` of a place.
-abbrev pub next_in_bucket_call : ℕ → List ℕ → DebugNamesIndex → ℕ → NameTableIndex → DebugNamesBucketStep
+abbrev pub next_in_bucket_call : ℕ → Section → DebugNamesIndex → ℕ → NameTableIndex → DebugNamesBucketStep
 next_in_bucket_call order s h bucket name =
     bucket_step_answer (bucket_step (order_of order) s (index_from h) (bucket_cursor bucket name.0))
 
-abbrev pub next_by_hash_call : ℕ → List ℕ → DebugNamesIndex → DebugNamesHashCursor → DebugNamesHashStep
+abbrev pub next_by_hash_call : ℕ → Section → DebugNamesIndex → DebugNamesHashCursor → DebugNamesHashStep
 next_by_hash_call order s h c = hash_step_answer c (hash_step (order_of order) s (index_from h) (iter_from c))
 
-abbrev pub next_entry_call : ℕ → List ℕ → DebugNamesIndex → ℕ → DebugNamesEntry
+abbrev pub next_entry_call : ℕ → Section → DebugNamesIndex → ℕ → DebugNamesEntry
 next_entry_call order s h at = entry_step_answer (order_of order) s (index_from h) (record { at = at })
 
 -- If `debug_names_find_by_bucket` gave the name `first` for a bucket, then whatever list of
@@ -81,7 +82,7 @@ next_entry_call order s h at = entry_step_answer (order_of order) s (index_from 
 -- first end is the first step before which all of the run is told (`ListsInOrder`).
 abbrev pub ExportedBuckets : Type 0
 ExportedBuckets =
-    (order : ℕ) (s : List ℕ) (h : DebugNamesIndex) (bucket first : ℕ) (steps : List DebugNamesBucketStep)
+    (order : ℕ) (s : Section) (h : DebugNamesIndex) (bucket first : ℕ) (steps : List DebugNamesBucketStep)
     → record { status = 0; kind = 1; value = first } ≡ handed bucket_answer (find_by_bucket (order_of order) s (index_from h) bucket)
     → LinkedCalls (next_in_bucket_call order s h bucket) (λ t. t.next) (record { 0 = first }) steps
     → ListsInOrder (map told_by_bucket steps)
@@ -91,7 +92,7 @@ ExportedBuckets =
 -- the hash.
 abbrev pub ExportedHashes : Type 0
 ExportedHashes =
-    (order : ℕ) (s : List ℕ) (h : DebugNamesIndex) (hash : ℕ) (first : DebugNamesHashCursor) (steps : List DebugNamesHashStep)
+    (order : ℕ) (s : Section) (h : DebugNamesIndex) (hash : ℕ) (first : DebugNamesHashCursor) (steps : List DebugNamesHashStep)
     → record { status = 0; kind = 1; value = 0; next = first } ≡ hash_answer (find_by_hash (order_of order) s (index_from h) hash)
     → LinkedCalls (next_by_hash_call order s h) (λ t. t.next) first steps
     → ListsInOrder (map told_by_hash steps) (hash_names (names_of_hash (order_of order) s (index_from h) hash))
@@ -100,7 +101,7 @@ ExportedHashes =
 -- with its handle, its code and its tag, and a refusal with its number and value.
 abbrev pub ExportedEntries : Type 0
 ExportedEntries =
-    (order : ℕ) (s : List ℕ) (h : DebugNamesIndex) (name : NameTableIndex) (first : ℕ) (steps : List DebugNamesEntry)
+    (order : ℕ) (s : Section) (h : DebugNamesIndex) (name : NameTableIndex) (first : ℕ) (steps : List DebugNamesEntry)
     → record { status = 0; kind = 1; value = first } ≡ handed entries_answer (name_entries (order_of order) s (index_from h) name)
     → LinkedCalls (next_entry_call order s h) (λ t. t.next) first steps
     → ListsInOrder (map told_by_entry steps) (answers_of as_name_entry (series (order_of order) s (index_from h) name))
@@ -108,27 +109,27 @@ ExportedEntries =
 -- The third part, of `debug_names_query`: where it is not refused, it finds what is expected.
 abbrev pub ExportedQueryFinds : Type 0
 ExportedQueryFinds =
-    (order : ℕ) (s strs : List ℕ) (hash : ℕ) (text : List ℕ) (lent after : List Record) (total : ℕ) (opened : List OpenIndex)
-    → AllOpen (order_of order) s opened
-    → Each (CompleteOrNoTable (order_of order) s) opened
+    (order : ℕ) (s strs : Section) (hash : ℕ) (text : List ℕ) (lent after : List Record) (total : ℕ) (indexes : List OpenIndex)
+    → AllOpen (order_of order) s indexes
+    → Each (CompleteOrNoTable (order_of order) s) indexes
     → record { answer = record { status = 0; kind = 1; value = total }; records = after }
     ≡ query_answer (order_of order) s strs hash text lent
-    → Finds (expected (order_of order) s strs hash text opened) total lent after
+    → Finds (expected (order_of order) s strs hash text indexes) total lent after
 
 -- What the exported calls over a section's headers hand over: `debug_names_next_header` of a place, and of
 -- the handle that it gave `debug_names_open` and `debug_names_check_table`.
-abbrev pub next_header_call : ℕ → List ℕ → ℕ → DebugNamesHeaderStep
+abbrev pub next_header_call : ℕ → Section → ℕ → DebugNamesHeaderStep
 next_header_call order s at = header_answer (header_step (order_of order) s (record { at = at }))
 
-abbrev pub open_call : List ℕ → DebugNamesIndex → DebugNamesAnswer
+abbrev pub open_call : Section → DebugNamesIndex → DebugNamesAnswer
 open_call s h = handed open_answer (opened s (index_from h))
 
-abbrev pub check_table_call : ℕ → List ℕ → DebugNamesIndex → DebugNamesTable
+abbrev pub check_table_call : ℕ → Section → DebugNamesIndex → DebugNamesTable
 check_table_call order s h = table_answer (table_check (order_of order) s (index_from h))
 
 -- a header step that gave a header: its handle opens, and the table check of it says that there is no hash
 -- table, kind 0, or a complete one, kind 1
-pub record OpensComplete (order : ℕ) (s : List ℕ) (t : DebugNamesHeaderStep) : Type 0 where
+pub record OpensComplete (order : ℕ) (s : Section) (t : DebugNamesHeaderStep) : Type 0 where
   pub header : (t.status ≡ 0) × (t.kind ≡ 1)
   pub opens : given 1 0 ≡ open_call s t.index
   pub table : ((check_table_call order s t.index).status ≡ 0) × ((check_table_call order s t.index).kind ≤ 1)
@@ -164,7 +165,7 @@ index_told t = record {
 -- not refused finds what is expected of these indexes, as `ExportedQueryFinds` says it.
 abbrev pub ExportedFinds : Type 0
 ExportedFinds =
-    (order : ℕ) (s strs : List ℕ) (hash : ℕ) (text : List ℕ) (lent after : List Record) (total : ℕ)
+    (order : ℕ) (s strs : Section) (hash : ℕ) (text : List ℕ) (lent after : List Record) (total : ℕ)
     (headers : List DebugNamesHeaderStep) (end : DebugNamesHeaderStep)
     → LinkedCalls (next_header_call order s) (λ t. t.next) 0 (headers ++ end ∷ [])
     → Each (OpensComplete order s) headers

@@ -16,6 +16,7 @@ use Rattle.hashes.specs.declared.hash.NameHashIter.{NameHashIter}
 use Rattle.hashes.specs.Table.{run, names_of_hash}
 use Rattle.hashes.specs.Lookups.{find_by_bucket, find_by_hash, hashed, bucket_step, hash_step}
 use Rattle.reader.specs.Answers.{outcome}
+use Rattle.reader.specs.Parts.{Section}
 
 -- what the code's steps answered
 abbrev pub bucket_answers : List (Taken BucketName NameBucketIter) → List (Outcome (Option BucketName))
@@ -25,7 +26,7 @@ abbrev pub hash_answers : List (Taken NameTableIndex NameHashIter) → List (Out
 hash_answers = answers
 
 -- these names as steps over a bucket answer them, each with its hash, and as steps over a hash do
-unfoldable pub bucket_names : RunTimeEndian → List ℕ → Parts → List ℕ → List (Outcome (Option BucketName))
+unfoldable pub bucket_names : RunTimeEndian → Section → Parts → List ℕ → List (Outcome (Option BucketName))
 bucket_names order s p = map λ n. answered (Some (hashed order s p n))
 
 unfoldable pub hash_names : List ℕ → List (Outcome (Option NameTableIndex))
@@ -37,7 +38,7 @@ hash_names = map λ n. answered (Some (record { 0 = n }))
 -- all of the run is answered (`ListsInOrder`).
 abbrev pub BucketLookups : Type 0
 BucketLookups =
-    (order : RunTimeEndian) (s : List ℕ) (i : NameIndex) (bucket : ℕ) (c : NameBucketIter)
+    (order : RunTimeEndian) (s : Section) (i : NameIndex) (bucket : ℕ) (c : NameBucketIter)
     (steps : List (Taken BucketName NameBucketIter))
     → outcome (Ok (Some c)) ≡ find_by_bucket order s i bucket
     → Linked (bucket_step order s i) c steps
@@ -46,7 +47,7 @@ BucketLookups =
 -- The same for `find_by_hash`, and the names of the run that store the hash.
 abbrev pub HashLookups : Type 0
 HashLookups =
-    (order : RunTimeEndian) (s : List ℕ) (i : NameIndex) (hash : ℕ) (c : NameHashIter)
+    (order : RunTimeEndian) (s : Section) (i : NameIndex) (hash : ℕ) (c : NameHashIter)
     (steps : List (Taken NameTableIndex NameHashIter))
     → outcome (Ok c) ≡ find_by_hash order s i hash
     → Linked (hash_step order s i) c steps

@@ -7,7 +7,8 @@
 -- A step is refused with 14 if the cursor's bucket is not below B. Over a bucket it answers the cursor's name
 -- and its hash, if that belongs to the bucket, else the end. Over a hash it goes on to the first name that
 -- stores the hash, which it answers, or to the first of another bucket, where it answers the end. The cursor
--- is then past that name. Where no name is left, or without a bucket cursor, it answers the end.
+-- is then past that name. Where no name is left, it answers the end, and the cursor stays over a bucket and is
+-- at N over a hash (where it is behind N, it stays); without a bucket cursor it answers the end, too.
 -- Without buckets DWARF 5 searches all names; gimli and this reader refuse the lookup with 1. Both take a
 -- start of N + 1; in both a step after the first end, where a list is over, may answer again.
 use Rattle.std.specs.Prelude.{ℕ, ◌+◌, ◌-◌, ◌*◌, cond, List, [], ◌∷◌, length, leb, eqb, Option, Some, None, option_map}

@@ -10,7 +10,7 @@
 -- DWARF 5 counts the padding of the augmentation in its size, which then is a multiple of 4. Here, as in
 -- gimli, the size is that of the string alone, and the padding is passed over, whatever it is; so are the two
 -- bytes behind the version, which DWARF 5 reserves as 0.
-use Rattle.std.specs.Prelude.{ℕ, ◌%◌, cond, List, length, eqb, Option, Some, None}
+use Rattle.std.specs.Prelude.{ℕ, ◌%◌, cond, length, eqb, Option, Some, None}
 use Rattle.reader.specs.Outcome.{Outcome, answered, ◌>>=◌, ◌>>◌}
 use Rattle.reader.specs.Parts.{skipped, cut}
 use Rattle.reader.specs.Numbers.{read_number, initial_length}
@@ -43,7 +43,7 @@ padding size = padding_for (size % 4)
 
 -- the augmentation: none if the size is 0; else its place and length, and the place past its padding, which
 -- depends on the size alone
-unfoldable pub augmentation : ℕ → List ℕ → ℕ → ℕ → Outcome (Read (Option AugmentationString))
+unfoldable pub augmentation : ℕ → Section → ℕ → ℕ → Outcome (Read (Option AugmentationString))
 augmentation size s at end = cond (eqb size 0) (answered (record { value = None; next = at })) (do
   string ← cut size s at end
   next ← skipped (padding size) s string.end end

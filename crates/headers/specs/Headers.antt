@@ -3,8 +3,9 @@
 -- lies behind the section's end, and hands the cursor back as it was. At the section's end it answers the
 -- end, with the cursor unmoved. Else it reads the header at the cursor: after a header the cursor is where
 -- its index ends; after a refusal it is at the section's end, so that the next step answers the end.
--- gimli's iterator holds its own bytes and has neither 13 nor 14.
-use Rattle.std.specs.Prelude.{ℕ, ◌-◌, cond, List, length, ltb, leb, eqb, Option, Some, None}
+-- What other files need is the header at a place, none at the section's end and behind it, and the list of
+-- those from a place on. gimli's iterator holds its own bytes and has neither 13 nor 14.
+use Rattle.std.specs.Prelude.{ℕ, ◌-◌, cond, length, ltb, leb, eqb, Option, Some, None}
 use Rattle.reader.specs.Outcome.{Outcome, answered, refused, ◌>>=◌, ◌>>◌}
 use Rattle.reader.specs.declared.error.Error.TheVariants.{DoesNotFit, SectionTooLong}
 use Rattle.reader.specs.Errors.{longest, fail_if}
@@ -21,7 +22,7 @@ unfoldable pub first_header : NameIndexHeaderIter
 first_header = record { at = 0 }
 
 -- after a header the cursor is where its index ends; after a refusal it is at the section's end
-unfoldable pub after_header : List ℕ → Outcome NameIndexHeader → Step NameIndexHeader NameIndexHeaderIter
+unfoldable pub after_header : Section → Outcome NameIndexHeader → Step NameIndexHeader NameIndexHeaderIter
 after_header s (answered h) = record { answer = answered (Some h); cursor = record { at = h.content.end } }
 after_header s (refused n v) = record { answer = refused n v; cursor = record { at = length s } }
 

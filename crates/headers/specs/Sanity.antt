@@ -14,6 +14,7 @@ use Rattle.headers.specs.declared.header.NameIndexHeader.{NameIndexHeader}
 use Rattle.headers.specs.declared.headers.NameIndexHeaderIter.{NameIndexHeaderIter}
 use Rattle.headers.specs.Header.{padding, header_body, header}
 use Rattle.headers.specs.Headers.{header_step, header_at, headers_from}
+use Rattle.reader.specs.Parts.{Section}
 
 -- the four cases, for every size
 abbrev pub PaddingCases : Type 0
@@ -43,13 +44,13 @@ PaddingComputed = map padding (0 ∷ 1 ∷ 2 ∷ 3 ∷ 4 ∷ 5 ∷ 6 ∷ 7 ∷ 8
 -- a header fits the section that it was read from, and its index ends past its place
 abbrev pub HeadersFit : Type 0
 HeadersFit =
-    (order : RunTimeEndian) (s : List ℕ) (at : ℕ) (h : NameIndexHeader) → header order s at ≡ answered h
+    (order : RunTimeEndian) (s : Section) (at : ℕ) (h : NameIndexHeader) → header order s at ≡ answered h
     → (at < h.content.end) × (h.content.at ≤ h.content.end) × (h.content.end ≤ length s)
 
 -- a step that gives a header moves forward and stays inside the section
 abbrev pub StepsForward : Type 0
 StepsForward =
-    (order : RunTimeEndian) (s : List ℕ) (c : NameIndexHeaderIter) (h : NameIndexHeader)
+    (order : RunTimeEndian) (s : Section) (c : NameIndexHeaderIter) (h : NameIndexHeader)
     → (header_step order s c).answer ≡ answered (Some h)
     → (c.at < (header_step order s c).cursor.at) × ((header_step order s c).cursor.at ≤ length s)
 
@@ -57,18 +58,18 @@ StepsForward =
 -- the end if they are more than the bytes that were left
 abbrev pub WalksEnd : Type 0
 WalksEnd =
-    (order : RunTimeEndian) (s : List ℕ) (c : NameIndexHeaderIter) (ts : List (Taken NameIndexHeader NameIndexHeaderIter))
+    (order : RunTimeEndian) (s : Section) (c : NameIndexHeaderIter) (ts : List (Taken NameIndexHeader NameIndexHeaderIter))
     → length s ≤ longest → c.at ≤ length s
     → Linked (header_step order s) c ts → length s - c.at < length ts → has_end (answers ts) ≡ true
 
 -- the headers from a place on are the header there, and those from the place where its index ends
 abbrev pub HeadersUnfold : Type 0
 HeadersUnfold =
-    (order : RunTimeEndian) (s : List ℕ) (at : ℕ)
+    (order : RunTimeEndian) (s : Section) (at : ℕ)
     → headers_from order s at ≡ listed (header_at order s at) λ h. headers_from order s h.content.end
 
 -- the fields of a header depend on the bytes of its own part alone
 abbrev pub BodiesInPart : Type 0
 BodiesInPart =
-    (order : RunTimeEndian) (s t : List ℕ) (c : HeaderCut) → c.body.end ≤ length s → c.body.end ≤ length t
+    (order : RunTimeEndian) (s t : Section) (c : HeaderCut) → c.body.end ≤ length s → c.body.end ≤ length t
     → slice c.body.at c.body.end s ≡ slice c.body.at c.body.end t → header_body order s c ≡ header_body order t c

@@ -16,7 +16,8 @@ use Rattle.index.specs.declared.layout.NameIndex.{NameIndex}
 use Rattle.index.specs.declared.layout.Parts.{Parts}
 use Rattle.index.specs.Sanity.{PartsFollow, PartsInside}
 use Rattle.index.specs.Words.{word_bytes}
-use Rattle.index.specs.Layout.{hash_bytes, sizes, places_from, place, parts, Fits, fitted, PartsFit}
+use Rattle.index.specs.Layout.{hash_bytes, sizes, places_from, place, parts, Fits, fitted}
+use Rattle.index.specs.Inner.{PartsFit}
 
 -- a word has at least four bytes, and at most eight
 pub words_least : (format : Format) (n : ℕ) → 4 * n ≤ word_bytes format n

@@ -18,14 +18,15 @@ use Rattle.abbreviations.proofs.AbbreviationLaws.{parsed_part}
 use Rattle.headers.specs.declared.header.NameIndexHeader.{NameIndexHeader}
 use Rattle.index.specs.declared.layout.NameIndex.{NameIndex}
 use Rattle.index.specs.declared.layout.Parts.{Parts}
-use Rattle.index.specs.Layout.{sizes, places_from, place, parts, Fits, fitted, PartsFit}
+use Rattle.index.specs.Layout.{sizes, places_from, place, parts, Fits, fitted}
+use Rattle.index.specs.Inner.{PartsFit}
 use Rattle.index.specs.Sanity.{OpenedFits, OpensInPart}
 use Rattle.index.proofs.LayoutLaws.{parts-follow, places_ascend, fitted-fits, fitted_own, own_index}
 use Rattle.index.specs.Open.{index_of, passed_over, cut_parts, opened, name_index}
 use Rattle.index.specs.Inner.{refuse_past, parts_inside}
 
 -- parts that are passed over one after another are refused as their places are
-passes : {B : Type 0} (b : Outcome B) (ns : List ℕ) (s : List ℕ) (at end : ℕ) → end ≤ length s → (passed_over ns s at end >> b) ≡ (refuse_past end (places_from at ns) >> b)
+passes : {B : Type 0} (b : Outcome B) (ns : List ℕ) (s : List ℕ) (at end : ℕ) → end ≤ length s → (passed_over s ns at end >> b) ≡ (refuse_past end (places_from at ns) >> b)
 unfolding passed_over refuse_past places_from
 passes b [] s at end h = refl
 passes b (n ∷ []) s at end h = one (ltb end (at + n)) refl
@@ -35,8 +36,8 @@ passes b (n ∷ []) s at end h = one (ltb end (at + n)) refl
     one false e = rw (skip_inside n s at end (omega (arith, ltb-false end (at + n) e)))
 passes b (n ∷ m ∷ ns) s at end h = more (ltb end (at + n)) refl (passes b (m ∷ ns) s (at + n) end h)
   where
-    more : (t : Bool) → ltb end (at + n) ≡ t → (passed_over (m ∷ ns) s (at + n) end >> b) ≡ (refuse_past end (places_from (at + n) (m ∷ ns)) >> b)
-        → ((skipped n s at end >>= λ next. passed_over (m ∷ ns) s next end) >> b) ≡ (cond t (refused 1 at) (refuse_past end (places_from (at + n) (m ∷ ns))) >> b)
+    more : (t : Bool) → ltb end (at + n) ≡ t → (passed_over s (m ∷ ns) (at + n) end >> b) ≡ (refuse_past end (places_from (at + n) (m ∷ ns)) >> b)
+        → ((skipped n s at end >>= λ next. passed_over s (m ∷ ns) next end) >> b) ≡ (cond t (refused 1 at) (refuse_past end (places_from (at + n) (m ∷ ns))) >> b)
     more true e rest = rw (skip_past n s at end (omega (arith, ltb-true end (at + n) e)))
     more false e rest = rw (skip_inside n s at end (omega (arith, ltb-false end (at + n) e))) rest
 
@@ -45,7 +46,7 @@ unfolding cut_parts parts_inside parts place sizes places_from
 cut_inside s i h = passes (answered (parts i)) (sizes i) s i.begin i.end h
 
 -- parts that were passed over end at their last place, inside
-over_answered : (ns : List ℕ) (s : List ℕ) (at end q : ℕ) → at ≤ part_end s end → passed_over ns s at end ≡ answered q
+over_answered : (ns : List ℕ) (s : List ℕ) (at end q : ℕ) → at ≤ part_end s end → passed_over s ns at end ≡ answered q
     → (q ≤ part_end s end) × (q ≡ get_or (places_from at ns) (length ns) 0)
 unfolding passed_over places_from
 over_answered [] s at end q h e = (rw (sym (same_answer e)) h, sym (same_answer e))
@@ -59,7 +60,7 @@ pub parts_cut : (s : List ℕ) (i : NameIndex) (p : Parts) → i.begin ≤ part_
     → ((parts i).entry_pool ≤ part_end s i.end) × (p ≡ parts i)
 unfolding cut_parts parts place sizes
 parts_cut s i p h e =
-    let (q, over, same) = then_answered (passed_over (sizes i) s i.begin i.end) _ p e in
+    let (q, over, same) = then_answered (passed_over s (sizes i) i.begin i.end) _ p e in
     let (inside, last) = over_answered (sizes i) s i.begin i.end q h over in
     (rw (sym last) inside, sym (same_answer same))
 

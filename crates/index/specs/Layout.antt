@@ -8,7 +8,7 @@
 -- An index fits if its eight parts end at or before its own end, and that is not behind the section's end.
 -- Each call on an index tests 13, where the section is too long, and then 14, where the index does not fit.
 -- gimli's index holds its own bytes and has neither 13 nor 14.
-use Rattle.std.specs.Prelude.{ℕ, ◌≡◌, ◌+◌, ◌*◌, ◌≤◌, cond, List, [], ◌∷◌, length, get_or, ltb, eqb}
+use Rattle.std.specs.Prelude.{ℕ, ◌+◌, ◌*◌, ◌≤◌, cond, List, [], ◌∷◌, length, get_or, ltb, eqb}
 use Rattle.reader.specs.Outcome.{Outcome, answered, ◌>>◌}
 use Rattle.reader.specs.declared.error.Error.TheVariants.{DoesNotFit, SectionTooLong}
 use Rattle.reader.specs.Errors.{longest, fail_if}
@@ -16,6 +16,7 @@ use Rattle.index.specs.Words.{word_bytes}
 use Rattle.reader.specs.declared.common.Format.{Format}
 use Rattle.index.specs.declared.layout.NameIndex.{NameIndex}
 use Rattle.index.specs.declared.layout.Parts.{Parts}
+use Rattle.reader.specs.Parts.{Section}
 
 -- an index without names and units, which fits every section
 unfoldable pub no_index : NameIndex
@@ -75,18 +76,13 @@ parts i = record {
 }
 
 -- the eight parts and the pool follow one another and end inside the section
-abbrev pub Fits : List ℕ → NameIndex → Type 0
+abbrev pub Fits : Section → NameIndex → Type 0
 Fits s i = ((parts i).entry_pool ≤ i.end) × (i.end ≤ length s)
 
 -- the parts of an index that fits: 13 is tested first, 14 next
-unfoldable pub fitted : List ℕ → NameIndex → Outcome Parts
+unfoldable pub fitted : Section → NameIndex → Outcome Parts
 fitted s i = do
   fail_if (ltb longest (length s)) SectionTooLong
   fail_if (ltb (length s) i.end) DoesNotFit
   fail_if (ltb i.end (parts i).entry_pool) DoesNotFit
   answered (parts i)
-
--- these are the parts of an index that fits: what an inner function requires that reads a hash table at bare
--- places
-abbrev pub PartsFit : List ℕ → Parts → Type 0
-PartsFit s p = answered p ≡ fitted s p.index

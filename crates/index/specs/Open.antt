@@ -9,7 +9,7 @@ use Rattle.std.specs.Prelude.{ℕ, List, [], ◌∷◌, length, ltb}
 use Rattle.reader.specs.Outcome.{Outcome, answered, ◌>>=◌, ◌>>◌}
 use Rattle.reader.specs.declared.error.Error.TheVariants.{DoesNotFit, SectionTooLong}
 use Rattle.reader.specs.Errors.{longest, fail_if}
-use Rattle.reader.specs.Parts.{skipped}
+use Rattle.reader.specs.Parts.{Section, skipped}
 use Rattle.abbreviations.specs.Abbreviations.{parsed}
 use Rattle.headers.specs.declared.header.NameIndexHeader.{NameIndexHeader}
 use Rattle.index.specs.declared.layout.NameIndex.{NameIndex}
@@ -31,20 +31,20 @@ index_of h = record {
 }
 
 -- parts of these sizes passed over one after another: refusal 1 at the first that does not lie inside
-unfoldable pub passed_over : List ℕ → List ℕ → ℕ → ℕ → Outcome ℕ
-passed_over [] s at end = answered at
-passed_over (n ∷ ns) s at end = do
+unfoldable pub passed_over : Section → List ℕ → ℕ → ℕ → Outcome ℕ
+passed_over s [] at end = answered at
+passed_over s (n ∷ ns) at end = do
   next ← skipped n s at end
-  passed_over ns s next end
+  passed_over s ns next end
 
 -- the parts of an index, cut in order
-unfoldable pub cut_parts : List ℕ → NameIndex → Outcome Parts
+unfoldable pub cut_parts : Section → NameIndex → Outcome Parts
 cut_parts s i = do
-  passed_over (sizes i) s i.begin i.end
+  passed_over s (sizes i) i.begin i.end
   answered (parts i)
 
 -- an index opened: 13, then 14, then its parts are cut, and its abbreviation table is read whole
-unfoldable pub opened : List ℕ → NameIndex → Outcome Parts
+unfoldable pub opened : Section → NameIndex → Outcome Parts
 opened s i = do
   fail_if (ltb longest (length s)) SectionTooLong
   fail_if (ltb (length s) i.end) DoesNotFit
@@ -54,7 +54,7 @@ opened s i = do
   answered p
 
 -- `NameIndex::new`: the index that a header describes, opened
-unfoldable pub name_index : List ℕ → NameIndexHeader → Outcome NameIndex
+unfoldable pub name_index : Section → NameIndexHeader → Outcome NameIndex
 name_index s h = do
   p ← opened s (index_of h)
   answered p.index

@@ -1,4 +1,4 @@
-// An index from a header (gimli's `NameIndex::new`; SPECIFICATION 6.3).
+// Opening an index, and the index of a header (gimli's `NameIndex::new`; SPECIFICATION 6.3).
 ghost use Rattle.std.specs.Prelude.{◌≡◌};
 ghost use Rattle.reader.specs.Answers.{outcome};
 ghost use Rattle.index.specs.Open.{index_of, opened, name_index};

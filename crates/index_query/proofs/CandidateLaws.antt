@@ -15,7 +15,8 @@ use Rattle.reader.specs.declared.endianity.RunTimeEndian.{RunTimeEndian}
 use Rattle.reader.proofs.ListLaws.{past-other}
 use Rattle.index.specs.declared.layout.NameIndex.{NameIndex}
 use Rattle.index.specs.declared.layout.Parts.{Parts}
-use Rattle.index.specs.Layout.{parts, PartsFit}
+use Rattle.index.specs.Layout.{parts}
+use Rattle.index.specs.Inner.{PartsFit}
 use Rattle.index.proofs.LayoutLaws.{own_index, parts_own}
 use Rattle.hashes.specs.declared.hash.NameHashIter.{NameHashIter}
 use Rattle.hashes.specs.declared.hash.Found.{Found}

@@ -18,7 +18,7 @@ use Rattle.reader.specs.Lists.{numbers_from}
 use Rattle.reader.proofs.ListLaws.{numbers_length}
 use Rattle.reader.proofs.ListingLaws.{followed-items, shown-items}
 use Rattle.index.specs.declared.layout.Parts.{Parts}
-use Rattle.index.specs.Layout.{PartsFit}
+use Rattle.index.specs.Inner.{PartsFit}
 use Rattle.index.proofs.LayoutLaws.{fitted-answered}
 use Rattle.entries.specs.declared.entry.WholeEntry.{WholeEntry}
 use Rattle.entries.specs.Entries.{Entry}
@@ -60,11 +60,6 @@ read_inside order s p at w read = by_entry (series_entry order s p at) refl (sym
         omega (arith, ahead, inside)
     by_entry (answered None) there same = absurd (none-ne-some _ (same_answer same))
     by_entry (refused n v) there same = absurd (refused-answered same)
-
--- a refusal, as a list that is broken off at once
-abbrev as_broken : {A B : Type 0} → Outcome A → Listing B
-as_broken (answered a) = ended
-as_broken (refused n v) = broken n v
 
 module _ (order : RunTimeEndian) (s : List ℕ) (offset : ℕ) (p : Parts) where
   -- what follows from an entry that was read at a place: its record, and those of the entries past it

@@ -19,7 +19,7 @@ same_bytes (a ∷ rest) [] = false
 same_bytes (a ∷ rest) (b ∷ bs) = cond (eqb a b) (same_bytes rest bs) false
 
 -- whether the bytes of a string are those
-unfoldable pub text_is : List ℕ → List ℕ → Str → Bool
+unfoldable pub text_is : Section → List ℕ → Str → Bool
 text_is strs text t = same_bytes (take t.len (drop t.start strs)) text
 
 -- the names for which a test holds, in order; the first test that is refused breaks the list off

@@ -3,7 +3,7 @@
 // (order, section, ..) stay parameters: with a struct that lends the section, contracts are no plainer (docs/DECISIONS.md).
 ghost use Rattle.std.specs.Prelude.{◌≡◌};
 ghost use Rattle.reader.specs.Answers.{outcome_as};
-ghost use Rattle.index.specs.Layout.{PartsFit};
+ghost use Rattle.index.specs.Inner.{PartsFit};
 ghost use Rattle.index_query.specs.Candidates.{candidates};
 ghost use Rattle.index_query.specs.Inner.{candidates_from, candidates_left};
 

@@ -3,7 +3,7 @@
 ghost use Rattle.std.specs.Prelude.{◌≡◌};
 ghost use Rattle.reader.specs.Answers.{outcome};
 ghost use Rattle.reader.specs.Listing.{left_by};
-ghost use Rattle.index.specs.Layout.{PartsFit};
+ghost use Rattle.index.specs.Inner.{PartsFit};
 ghost use Rattle.index_query.specs.Matching.{name_matches};
 ghost use Rattle.index_query.specs.Inner.{matches_from, matches_left};
 

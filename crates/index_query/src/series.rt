@@ -4,7 +4,7 @@ ghost use Rattle.std.specs.Prelude.{◌≡◌, ℕ, ◌≤◌, List, length};
 ghost use Rattle.reader.specs.Errors.{longest};
 ghost use Rattle.reader.specs.Answers.{outcome};
 ghost use Rattle.reader.specs.Listing.{item, or_broken, left_by};
-ghost use Rattle.index.specs.Layout.{PartsFit};
+ghost use Rattle.index.specs.Inner.{PartsFit};
 ghost use Rattle.index_query.specs.Records.{index_records};
 ghost use Rattle.index_query.specs.Inner.{entry_records, entry_left, index_left};
 

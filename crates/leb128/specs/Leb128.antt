@@ -15,6 +15,7 @@ use Rattle.reader.specs.Outcome.{Outcome, answered, ◌>>◌}
 use Rattle.reader.specs.declared.reader.Read.{Read}
 use Rattle.reader.specs.Errors.{fail_if, require}
 use Rattle.reader.specs.declared.error.Error.TheVariants.{BadUnsignedLeb128, UnexpectedEof}
+use Rattle.reader.specs.Parts.{Section}
 
 -- the bytes of the number with which a list begins: up to the first below 128, that one included
 unfoldable pub number_bytes : List ℕ → List ℕ
@@ -49,7 +50,7 @@ number_of_bytes bits bs at = do
   answered (record { value = base128 bs; next = at + length bs })
 
 -- the number of a width at `at`, in a part that ends at `end`
-unfoldable pub leb128 : ℕ → List ℕ → ℕ → ℕ → Outcome (Read ℕ)
+unfoldable pub leb128 : ℕ → Section → ℕ → ℕ → Outcome (Read ℕ)
 leb128 bits s at end = number_of_bytes bits (number_bytes (slice at end s)) at
 
 -- 7.6's encoder: while 128 or more is left, a byte with the low seven bits and bit 7 set; then what is left.

@@ -5,10 +5,12 @@
 -- Leb128Limits.antt and Leb128Bytes.antt.
 use Rattle.std.specs.Prelude.{ℕ, suc, ◌+◌, ◌-◌, ◌*◌, ◌^◌, ◌%◌, ◌<◌, ◌≡◌, Bool, false, cond, ◌||◌, List, [], ◌∷◌, ◌++◌, length, get_or, replicate, leb, ltb}
 use Rattle.std.proofs.Math.Seq.{slice}
-use Rattle.reader.specs.Outcome.{Outcome, answered, refused, ◌>>◌, demand, refuse_if}
-use Rattle.reader.specs.Parts.{Forward}
+use Rattle.reader.specs.Outcome.{Outcome, answered, refused, ◌>>◌}
+use Rattle.reader.specs.Parts.{Section, Forward}
 use Rattle.reader.specs.declared.reader.Read.{Read}
 use Rattle.leb128.specs.Leb128.{number_bytes, complete, base128, unsigned_limit, u16_limit, leb128, encoded, padded}
+use Rattle.reader.specs.Errors.{refusal, fail_if, require}
+use Rattle.reader.specs.declared.error.Error.TheVariants.{UnexpectedEof, BadUnsignedLeb128}
 
 -- the ways to write a number: in the fewest bytes, or padded to any length
 pub data Writes (v : ℕ) : List ℕ → Type 0 where
@@ -30,7 +32,7 @@ U16ReadsBack = Leb128ReadsBack u16_limit
 
 -- every number read fits its width
 abbrev pub Leb128Below : ℕ → Type 0
-Leb128Below bits = (s : List ℕ) (at end : ℕ) (r : Read ℕ) → leb128 bits s at end ≡ answered r → r.value < 2 ^ bits
+Leb128Below bits = (s : Section) (at end : ℕ) (r : Read ℕ) → leb128 bits s at end ≡ answered r → r.value < 2 ^ bits
 
 abbrev pub UnsignedBelow : Type 0
 UnsignedBelow = Leb128Below unsigned_limit
@@ -40,11 +42,11 @@ U16Below = Leb128Below u16_limit
 
 -- an answered read moves forward by at least one byte and stays inside its part
 abbrev pub Leb128Forward : Type 0
-Leb128Forward = (bits : ℕ) (s : List ℕ) (at end : ℕ) (r : Read ℕ) → leb128 bits s at end ≡ answered r → Forward s at end r.next
+Leb128Forward = (bits : ℕ) (s : Section) (at end : ℕ) (r : Read ℕ) → leb128 bits s at end ≡ answered r → Forward s at end r.next
 
 -- a read looks at no byte outside its part: of two sections with the same bytes there, it answers the same
 abbrev pub Leb128InPart : Type 0
-Leb128InPart = (bits : ℕ) (s t : List ℕ) (at end : ℕ) → slice at end s ≡ slice at end t → leb128 bits s at end ≡ leb128 bits t at end
+Leb128InPart = (bits : ℕ) (s t : Section) (at end : ℕ) → slice at end s ≡ slice at end t → leb128 bits s at end ≡ leb128 bits t at end
 
 -- The byte b at position i, counted from 0, has a bit set beyond the width if its low seven bits, which count
 -- for 128 ^ i times as much there, make 2 ^ bits or more.
@@ -71,22 +73,22 @@ BitsLeft = (bits i b : ℕ) → beyond bits i b ≡ leb (2 ^ (bits - 7 * i)) (b 
 -- no byte is left, it is missing: 1 at its place. A byte with a bit set beyond the width is 7, whatever
 -- follows it or does not. The first byte below 128 is the last.
 unfoldable pub byte_by_byte : ℕ → ℕ → ℕ → List ℕ → ℕ → Outcome (Read ℕ)
-byte_by_byte bits i value [] at = refused 1 at
+byte_by_byte bits i value [] at = refusal (UnexpectedEof at)
 byte_by_byte bits i value (b ∷ bs) at =
     let sum : ℕ = value + 128 ^ i * (b % 128) in
-    cond (beyond bits i b) (refused 7 0)
+    cond (beyond bits i b) (refusal BadUnsignedLeb128)
     (cond (ltb b 128) (answered (record { value = sum; next = at + 1 })) (byte_by_byte bits (suc i) sum bs (at + 1)))
 
 -- that is what is read, for every width, all bytes and all places
 abbrev pub ByteByByte : Type 0
-ByteByByte = (bits : ℕ) (s : List ℕ) (at end : ℕ) → leb128 bits s at end ≡ byte_by_byte bits 0 0 (slice at end s) at
+ByteByByte = (bits : ℕ) (s : Section) (at end : ℕ) → leb128 bits s at end ≡ byte_by_byte bits 0 0 (slice at end s) at
 
 -- gimli's rule: the byte at the position `last`, counted from 0, if there is one, must be at most `top`, else
 -- 7. As `top` is below 128, no number runs on past it.
 unfoldable pub gimli_of_bytes : ℕ → ℕ → List ℕ → ℕ → Outcome (Read ℕ)
 gimli_of_bytes last top bs at = do
-  refuse_if (ltb top (get_or bs last 0)) 7 0
-  demand (complete bs) 1 (at + length bs)
+  fail_if (ltb top (get_or bs last 0)) BadUnsignedLeb128
+  require (complete bs) (UnexpectedEof (at + length bs))
   answered (record { value = base128 bs; next = at + length bs })
 
 unfoldable pub gimli_leb128 : ℕ → ℕ → List ℕ → ℕ → ℕ → Outcome (Read ℕ)
@@ -95,7 +97,7 @@ gimli_leb128 last top s at end = gimli_of_bytes last top (number_bytes (slice at
 -- where the byte of the number at that position, if there is one, does not continue, gimli reads the same
 abbrev pub GimliReadsTheSame : ℕ → ℕ → ℕ → Type 0
 GimliReadsTheSame bits last top =
-    (s : List ℕ) (at end : ℕ) → get_or (number_bytes (slice at end s)) last 0 < 128
+    (s : Section) (at end : ℕ) → get_or (number_bytes (slice at end s)) last 0 < 128
     → leb128 bits s at end ≡ gimli_leb128 last top s at end
 
 -- gimli's `unsigned` takes ten bytes, of which the tenth is 0 or 1; its `u16` takes three, of which the third

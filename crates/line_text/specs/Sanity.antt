@@ -1,5 +1,6 @@
 -- What a reader of the definitions may want to be sure of: that decimal digits are right, and examples of
--- lines. The laws of these types prove it, in proofs/DecimalLaws.antt and proofs/TextLaws.antt.
+-- lines (SPECIFICATION 13.1). The laws of these types prove it, in proofs/DecimalLaws.antt and
+-- proofs/TextLaws.antt.
 use Rattle.std.specs.Prelude.{ℕ, ◌+◌, ◌-◌, ◌*◌, ◌/◌, ◌%◌, ◌≤◌, ◌<◌, ◌≡◌, cond, List, [], ◌∷◌, ◌++◌, map, get_or, ltb, Option, Some, None}
 use Prim.Native.String.{String}
 use Rattle.listing.specs.declared.lines.Line.{Line}

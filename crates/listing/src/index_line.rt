@@ -2,12 +2,13 @@
 // (order, section, index) stay parameters: with a struct that lends the section, contracts are no plainer (docs/DECISIONS.md).
 ghost use Rattle.std.specs.Prelude.{◌≡◌};
 ghost use Rattle.reader.specs.Answers.{outcome};
+ghost use Rattle.index.specs.Inner.{PartsFit};
 ghost use Rattle.listing.specs.Indexes.{missed_in, opened_index};
 
 use headers::NameIndexHeader;
-use index::NameIndex;
+use index::{NameIndex, Parts, open_index};
 use reader::{DebugNamesOffset, Error, RunTimeEndian};
-use tables::{TableCheck, check_table};
+use tables::{TableCheck, check_table_in};
 
 #[derive(Clone, Copy)]
 pub struct IndexLine {
@@ -24,12 +25,13 @@ pub struct Opened {
     pub line: IndexLine,
 }
 
-// How many names the hash table of an index misses; none where it has no hash table.
+// How many names the hash table of an index whose parts are `p` misses; none where it has no hash table.
 #[tactic(auto, unfolding(crate::specs::Indexes::missed_in))]
-fn missed_in(order: RunTimeEndian, section: &[u8], index: NameIndex) -> Result<Option<u32>, Error>
-    ensures { outcome result ≡ missed_in order section.now index }
+fn missed_in(order: RunTimeEndian, section: &[u8], p: Parts) -> Result<Option<u32>, Error>
+    requires { PartsFit section.now p }
+    ensures { outcome result ≡ missed_in order section.now p.index }
 {
-    Ok(match check_table(order, section, index)? {
+    Ok(match check_table_in(order, section, p)? {
         TableCheck::NoTable => None,
         TableCheck::Complete => Some(0),
         TableCheck::Incomplete(lost) => Some(lost.missed),
@@ -37,18 +39,18 @@ fn missed_in(order: RunTimeEndian, section: &[u8], index: NameIndex) -> Result<O
 }
 
 // Opens the index of a header, and checks its table.
-#[tactic(auto, unfolding(crate::specs::Indexes::opened_index))]
+#[tactic(auto, unfolding(crate::specs::Indexes::opened_index, index::specs::Open::name_index), using(index::proofs::OpenLaws::opened_own))]
 pub fn open(order: RunTimeEndian, section: &[u8], header: NameIndexHeader) -> Result<Opened, Error>
     ensures { outcome result ≡ opened_index order section.now header }
 {
-    let index = NameIndex::new(section, header)?;
-    let missed = missed_in(order, section, index)?;
+    let p = open_index(section, NameIndex::from(header))?;
+    let missed = missed_in(order, section, p)?;
     Ok(Opened {
-        index,
+        index: p.index,
         line: IndexLine {
             place: header.offset,
-            name_count: index.name_count,
-            bucket_count: index.bucket_count,
+            name_count: p.index.name_count,
+            bucket_count: p.index.bucket_count,
             missed,
         },
     })

@@ -1,5 +1,5 @@
--- What a program that prints the texts of its steps prints. The law `text-listed` of proofs/TextLaws.antt
--- proves it.
+-- What a program that prints the texts of its steps prints (SPECIFICATION 13.3). The law `text-listed` of
+-- proofs/TextLaws.antt proves it.
 use Rattle.std.specs.Prelude.{ℕ, ◌≡◌, List, [], ◌∷◌, map, Option, Some, None}
 use Rattle.listing.specs.declared.lines.ListingIter.{ListingIter}
 use Rattle.listing.specs.Lines.{first_line}
@@ -8,10 +8,11 @@ use Rattle.line_text.specs.declared.LineText.{LineText}
 use Rattle.listing_text.specs.declared.TextStep.{TextStep}
 use Rattle.listing_text.specs.Listing.{joined, section_text}
 use Rattle.listing_text.specs.Written.{written_of, text_step}
+use Rattle.reader.specs.Parts.{Section}
 
 -- The steps that a program makes from a cursor on: each is given the cursor of the one before it, and the
 -- last is the first that prints nothing.
-pub data StepsFrom (s : List ℕ) : ListingIter → List TextStep → Type 0 where
+pub data StepsFrom (s : Section) : ListingIter → List TextStep → Type 0 where
   last_step : {c : ListingIter} {t : TextStep} → written_of t ≡ text_step s c → ◌≡◌ {A = Option LineText} t.text None
       → StepsFrom s c (t ∷ [])
   step_then : {c : ListingIter} {t : TextStep} {ts : List TextStep} {l : LineText} → written_of t ≡ text_step s c
@@ -26,5 +27,5 @@ printed_bytes (Some l) = text_of l
 -- The texts of these steps, one after another, are the text of the section's listing.
 abbrev pub TextListed : Type 0
 TextListed =
-    (s : List ℕ) (steps : List TextStep) → StepsFrom s first_line steps
+    (s : Section) (steps : List TextStep) → StepsFrom s first_line steps
     → joined (map (λ t. printed_bytes t.text) steps) ≡ section_text s

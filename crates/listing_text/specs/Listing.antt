@@ -6,6 +6,7 @@ use Rattle.reader.specs.declared.endianity.RunTimeEndian.{RunTimeEndian}
 use Rattle.listing.specs.declared.lines.Line.{Line}
 use Rattle.listing.specs.Lines.{section_lines}
 use Rattle.line_text.specs.Text.{line_text, refused_text}
+use Rattle.reader.specs.Parts.{Section}
 
 -- one text after another
 unfoldable pub joined : List (List ℕ) → List ℕ
@@ -19,5 +20,5 @@ listing_text (broken number value) = refused_text number
 listing_text (item l rest) = line_text l ++ listing_text rest
 
 -- the text of the listing of a section, which is little-endian
-unfoldable pub section_text : List ℕ → List ℕ
+unfoldable pub section_text : Section → List ℕ
 section_text s = listing_text (section_lines RunTimeEndian.Little s)

@@ -11,6 +11,7 @@ use Rattle.listing.specs.Lines.{line_step}
 use Rattle.line_text.specs.Text.{line_text, refused_text, text_of}
 use Rattle.line_text.specs.declared.LineText.{LineText}
 use Rattle.listing_text.specs.declared.TextStep.{TextStep}
+use Rattle.reader.specs.Parts.{Section}
 
 -- what is printed, which is nothing where no line follows, and the cursor after it
 pub record Written : Type 0 where
@@ -35,5 +36,5 @@ abbrev pub written_for : Step Line ListingIter → Written
 written_for t = record { text = answer_text t.answer; cursor = t.cursor }
 
 -- the step: that of the listing, little-endian, and its text
-unfoldable pub text_step : List ℕ → ListingIter → Written
+unfoldable pub text_step : Section → ListingIter → Written
 text_step s c = written_for (line_step RunTimeEndian.Little s c)

@@ -40,7 +40,7 @@ step_from i k = cond (leb i.name_count k)
     (record { answer = answered (Some (record { 0 = k })); cursor = name_cursor (k + 1) })
 
 -- the step; 13 and 14 of the index are tested first, and any cursor fits
-unfoldable pub name_step : List ℕ → NameIndex → NameTableIter → Step NameTableIndex NameTableIter
+unfoldable pub name_step : Section → NameIndex → NameTableIter → Step NameTableIndex NameTableIter
 name_step s i c = keeping c (do
   fitted s i
   answered (step_from i c.name_table_index.0))

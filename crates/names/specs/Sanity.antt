@@ -12,6 +12,7 @@ use Rattle.index.specs.declared.layout.NameIndex.{NameIndex}
 use Rattle.index.specs.Layout.{Fits}
 use Rattle.names.specs.Names.{first_name, name_step}
 use Rattle.names.specs.declared.table.NameTableIter.{NameTableIter}
+use Rattle.reader.specs.Parts.{Section}
 
 -- a name of that number, and the end, as a step answers them
 abbrev pub named : ℕ → Outcome (Option NameTableIndex)
@@ -25,6 +26,6 @@ the_end = answered None
 -- again.
 abbrev pub NamesInOrder : Type 0
 NamesInOrder =
-    (s : List ℕ) (i : NameIndex) (rs : List (Taken NameTableIndex NameTableIter)) → length s ≤ longest → Fits s i
+    (s : Section) (i : NameIndex) (rs : List (Taken NameTableIndex NameTableIter)) → length s ≤ longest → Fits s i
     → Linked (name_step s i) first_name rs
     → answers rs ≡ take (length rs) (map named (numbers_from 0 i.name_count) ++ replicate (length rs) the_end)

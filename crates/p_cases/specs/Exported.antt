@@ -1,7 +1,7 @@
 -- Demand 3 of the exported calls on case A: that what it supposes of the lookups, their steps and the query
 -- holds there, and what it says, in the structs that the calls hand over; of the query with demand 3's own
 -- suppositions, too.
-use Rattle.std.specs.Prelude.{ℕ, ◌≡◌, List, [], ◌∷◌, ◌++◌, map, length, take, drop, Option, Some}
+use Rattle.std.specs.Prelude.{ℕ, ◌≡◌, List, [], ◌∷◌, ◌++◌, map, Option, Some}
 use Rattle.reader.specs.Outcome.{Outcome, answered}
 use Rattle.reader.specs.Listing.{answers_of}
 use Rattle.reader.specs.Steps.{ListsInOrder}
@@ -25,7 +25,7 @@ use Rattle.step_answers.specs.Steps.{hash_answer}
 use Rattle.entry_answers.specs.declared.DebugNamesEntry.{DebugNamesEntry}
 use Rattle.entry_answers.specs.Entry.{no_facts}
 use Rattle.demand3.specs.Expected.{expected}
-use Rattle.demand3.specs.Demand3.{Each}
+use Rattle.demand3.specs.Demand3.{Each, Finds}
 use Rattle.exported.specs.Query.{QueryHanded, query_answer}
 use Rattle.exported.specs.Demand3.{LinkedCalls, next_in_bucket_call, next_by_hash_call, next_entry_call, told_by_bucket, told_by_hash, told_by_entry}
 use Rattle.exported.specs.Demand3.{next_header_call, OpensComplete, index_told}
@@ -127,11 +127,7 @@ abbrev pub QueryGiven : Type 0
 QueryGiven = handed_back (given 1 1) (function_at 0 6 1 0 0x20 ∷ old ∷ []) ≡ query_answer (order_of 0) case_a strings_a 7 de (old ∷ old ∷ [])
 
 abbrev pub QueryFound : Type 0
-QueryFound =
-    (1 ≡ length (expected (order_of 0) case_a strings_a 7 de (open_a ∷ [])))
-    × ((new : List Record)
-    × (map answered new ≡ take 2 (expected (order_of 0) case_a strings_a 7 de (open_a ∷ [])))
-    × (function_at 0 6 1 0 0x20 ∷ old ∷ [] ≡ new ++ drop (length new) (old ∷ old ∷ [])))
+QueryFound = Finds (expected (order_of 0) case_a strings_a 7 de (open_a ∷ [])) 1 (old ∷ old ∷ []) (function_at 0 6 1 0 0x20 ∷ old ∷ [])
 
 -- the header steps: the header at 0, with the handle of its index, and the end; the handle opens, and its
 -- table is complete
@@ -149,11 +145,7 @@ CallsComplete = Each (OpensComplete 0 case_a) headers_of_a
 
 -- so the same query finds what is expected of the index that they tell of; and that is one record
 abbrev pub CallsFound : Type 0
-CallsFound =
-    (1 ≡ length (expected (order_of 0) case_a strings_a 7 de (map index_told headers_of_a)))
-    × ((new : List Record)
-    × (map answered new ≡ take 2 (expected (order_of 0) case_a strings_a 7 de (map index_told headers_of_a)))
-    × (function_at 0 6 1 0 0x20 ∷ old ∷ [] ≡ new ++ drop (length new) (old ∷ old ∷ [])))
+CallsFound = Finds (expected (order_of 0) case_a strings_a 7 de (map index_told headers_of_a)) 1 (old ∷ old ∷ []) (function_at 0 6 1 0 0x20 ∷ old ∷ [])
 
 abbrev pub CallsExpected : Type 0
 CallsExpected = expected (order_of 0) case_a strings_a 7 de (map index_told headers_of_a) ≡ answered (function_at 0 6 1 0 0x20) ∷ []

@@ -1,7 +1,7 @@
 -- Case A's query, and demand 3 on case A: what its first two parts say of it, and for the third, on case A
 -- and on a section of two indexes of which one has no hash table, that what it supposes holds there, and what
 -- it says.
-use Rattle.std.specs.Prelude.{ℕ, ◌^◌, ◌<◌, ◌≡◌, List, [], ◌∷◌, ◌++◌, map, length, take, drop, None}
+use Rattle.std.specs.Prelude.{ℕ, ◌^◌, ◌<◌, ◌≡◌, List, [], ◌∷◌, ◌++◌, None}
 use Rattle.reader.specs.Outcome.{answered}
 use Rattle.reader.specs.declared.endianity.RunTimeEndian.{RunTimeEndian}
 use Rattle.reader.specs.declared.common.Format.{Format}
@@ -11,7 +11,7 @@ use Rattle.records.specs.declared.record.Record.{Record}
 use Rattle.query_plan.specs.Plans.{Queried}
 use Rattle.query.specs.Query.{section_query}
 use Rattle.demand3.specs.Expected.{OpenIndex, expected}
-use Rattle.demand3.specs.Demand3.{Each, AllOpen, CompleteOrNoTable}
+use Rattle.demand3.specs.Demand3.{Each, AllOpen, CompleteOrNoTable, Finds}
 use Rattle.reader.specs.Steps.{ListsInOrder, answers}
 use Rattle.index.specs.Layout.{parts}
 use Rattle.hashes.specs.Table.{run, names_of_hash}
@@ -81,11 +81,7 @@ CompleteA = Each (CompleteOrNoTable RunTimeEndian.Little case_a) (open_a ∷ [])
 
 -- what demand 3 then says of case A's query
 abbrev pub FoundA : Type 0
-FoundA =
-    (1 ≡ length (expected RunTimeEndian.Little case_a strings_a 7 de (open_a ∷ [])))
-    × ((new : List Record)
-    × (map answered new ≡ take 2 (expected RunTimeEndian.Little case_a strings_a 7 de (open_a ∷ [])))
-    × (function_at 0 6 1 0 0x20 ∷ old ∷ [] ≡ new ++ drop (length new) (old ∷ old ∷ [])))
+FoundA = Finds (expected RunTimeEndian.Little case_a strings_a 7 de (open_a ∷ [])) 1 (old ∷ old ∷ []) (function_at 0 6 1 0 0x20 ∷ old ∷ [])
 
 -- Case A and after it, from place 109 on, an index without a hash table: its length; the version and its
 -- padding; C; L; F; B; N; A; the augmentation; the unit; the strings; the entry offsets; the abbreviations;

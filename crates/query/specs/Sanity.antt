@@ -6,10 +6,11 @@ use Rattle.reader.specs.declared.endianity.RunTimeEndian.{RunTimeEndian}
 use Rattle.reader.specs.declared.error.Error.{Error}
 use Rattle.records.specs.declared.record.Record.{Record}
 use Rattle.query.specs.Query.{section_query}
+use Rattle.reader.specs.Parts.{Section}
 
 -- a query that is refused leaves the records that it was lent as they were
 abbrev pub RefusedUnchanged : Type 0
 RefusedUnchanged =
-    (order : RunTimeEndian) (s strs : List ℕ) (hash : ℕ) (text : List ℕ) (lent after : List Record) (e : Error)
+    (order : RunTimeEndian) (s strs : Section) (hash : ℕ) (text : List ℕ) (lent after : List Record) (e : Error)
     → record { answer = outcome (Err e); records = after } ≡ section_query order s strs hash text lent
     → after ≡ lent

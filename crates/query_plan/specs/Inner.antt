@@ -6,7 +6,7 @@ use Rattle.reader.specs.Listing.{items_of}
 use Rattle.reader.specs.Parts.{Section}
 use Rattle.reader.specs.declared.error.Error.{Error}
 use Rattle.reader.specs.declared.endianity.RunTimeEndian.{RunTimeEndian}
-use Rattle.index.specs.Layout.{PartsFit}
+use Rattle.index.specs.Inner.{PartsFit}
 use Rattle.records.specs.declared.record.Record.{Record}
 use Rattle.section_records.specs.Records.{section_records}
 use Rattle.section_records.specs.Inner.{query_left, first_record}
@@ -38,5 +38,5 @@ abbrev pub nothing_to_write : Result ℕ Error → Plan
 nothing_to_write answer = record { answer = answer; writing = record { left = 0; first = None; cursor = first_record } }
 
 -- where something is left to write, the cursor's index fits
-abbrev pub Ready : List ℕ → Writing → Type 0
+abbrev pub Ready : Section → Writing → Type 0
 Ready s w = (w.left ≡ 0 → ⊥) → PartsFit s w.cursor.parts

@@ -10,7 +10,7 @@ ghost use Rattle.std.specs.Prelude.{◌≡◌, ◌+◌, ◌<◌, ◌^◌};
 ghost use Rattle.reader.specs.Answers.{outcome};
 ghost use Rattle.reader.specs.Listing.{counted, items};
 ghost use Rattle.section_records.specs.Inner.{query_left};
-ghost use Rattle.index.specs.Layout.{PartsFit};
+ghost use Rattle.index.specs.Inner.{PartsFit};
 ghost use Rattle.query_plan.specs.Inner.{planned, writing_left, plan_outcome, write_left, nothing_to_write, Ready};
 
 use reader::{Error, RunTimeEndian, too_long};

@@ -1,5 +1,5 @@
--- Numbers in order, as names, units and buckets are counted, and what is taken of a list by a test: all
--- elements for which it holds, or those before the first for which it does not.
+-- Numbers in order, as names, units and buckets are counted (SPECIFICATION 1.2), and what is taken of a list
+-- by a test: all elements for which it holds, or those before the first for which it does not.
 use Rattle.std.specs.Prelude.{ℕ, zero, suc, ◌+◌, Bool, true, false, cond, List, [], ◌∷◌, eqb}
 
 -- the n numbers from k on

@@ -12,7 +12,7 @@
 use Rattle.std.specs.Prelude.{ℕ, zero, suc, ◌+◌, ◌*◌, ◌%◌, ◌/◌, ◌<◌, List, [], ◌∷◌, reverse, cond, take, drop, ltb, eqb}
 use Rattle.std.proofs.Math.Seq.{slice}
 use Rattle.reader.specs.Outcome.{Outcome, answered, ◌>>=◌}
-use Rattle.reader.specs.Parts.{skipped}
+use Rattle.reader.specs.Parts.{skipped, Section}
 use Rattle.reader.specs.declared.reader.Read.{Read}
 use Rattle.reader.specs.declared.reader.InitialLength.{InitialLength}
 use Rattle.reader.specs.declared.endianity.RunTimeEndian.{RunTimeEndian}
@@ -48,17 +48,17 @@ bytes_of Little n v = digits_of n v
 bytes_of Big n v = reverse (digits_of n v)
 
 -- the number that the n bytes at `at` spell
-unfoldable pub number_at : RunTimeEndian → ℕ → List ℕ → ℕ → ℕ
+unfoldable pub number_at : RunTimeEndian → ℕ → Section → ℕ → ℕ
 number_at order n s at = spelled order (take n (drop at s))
 
 -- the number of n bytes at `at`, and the place past it; refused as the skip over them is
-unfoldable pub read_number : ℕ → RunTimeEndian → List ℕ → ℕ → ℕ → Outcome (Read ℕ)
+unfoldable pub read_number : ℕ → RunTimeEndian → Section → ℕ → ℕ → Outcome (Read ℕ)
 read_number n order s at end = do
   next ← skipped n s at end
   answered (record { value = spelled order (take n (slice at end s)); next = next })
 
 -- the byte at `at`: a number of one byte, which both orders spell alike (`one_byte`)
-unfoldable pub read_byte : List ℕ → ℕ → ℕ → Outcome (Read ℕ)
+unfoldable pub read_byte : Section → ℕ → ℕ → Outcome (Read ℕ)
 read_byte s at end = read_number 1 Little s at end
 
 -- the bytes of a word of the format
@@ -68,7 +68,7 @@ word_size Dwarf64 = 8
 
 -- 7.4: a number of 4 bytes below 0xfffffff0 is the length; 0xffffffff is followed by the length in 8 bytes;
 -- the rest is reserved
-unfoldable pub initial_length : RunTimeEndian → List ℕ → ℕ → ℕ → Outcome InitialLength
+unfoldable pub initial_length : RunTimeEndian → Section → ℕ → ℕ → Outcome InitialLength
 initial_length order s at end = do
   first ← read_number 4 order s at end
   cond (ltb first.value 0xfffffff0)

@@ -4,7 +4,7 @@
 use Rattle.std.specs.Prelude.{ℕ, ◌+◌, ◌^◌, ◌≤◌, ◌<◌, ◌≡◌, List, ◌++◌, length}
 use Rattle.std.proofs.Math.Seq.{slice}
 use Rattle.reader.specs.Outcome.{answered}
-use Rattle.reader.specs.Parts.{part_end, Forward, cut}
+use Rattle.reader.specs.Parts.{part_end, Forward, cut, Section}
 use Rattle.reader.specs.Numbers.{Bytes, spelled, bytes_of, read_number, initial_length}
 use Rattle.reader.specs.declared.reader.Read.{Read}
 use Rattle.reader.specs.declared.reader.InitialLength.{InitialLength}
@@ -29,38 +29,38 @@ NumbersReadBack =
 -- every number read is below its width
 abbrev pub NumbersBelow : Type 0
 NumbersBelow =
-    (n : ℕ) (order : RunTimeEndian) (s : List ℕ) (at end : ℕ) (r : Read ℕ) → Bytes s → read_number n order s at end ≡ answered r
+    (n : ℕ) (order : RunTimeEndian) (s : Section) (at end : ℕ) (r : Read ℕ) → Bytes s → read_number n order s at end ≡ answered r
     → r.value < 256 ^ n
 
 abbrev pub LengthsBelow : Type 0
 LengthsBelow =
-    (order : RunTimeEndian) (s : List ℕ) (at end : ℕ) (l : InitialLength) → Bytes s → initial_length order s at end ≡ answered l
+    (order : RunTimeEndian) (s : Section) (at end : ℕ) (l : InitialLength) → Bytes s → initial_length order s at end ≡ answered l
     → l.length < 2 ^ 64
 
 -- an answered read moves forward by at least one byte and stays inside its part
 abbrev pub NumbersForward : Type 0
 NumbersForward =
-    (n : ℕ) (order : RunTimeEndian) (s : List ℕ) (at end : ℕ) (r : Read ℕ) → 1 ≤ n → read_number n order s at end ≡ answered r
+    (n : ℕ) (order : RunTimeEndian) (s : Section) (at end : ℕ) (r : Read ℕ) → 1 ≤ n → read_number n order s at end ≡ answered r
     → Forward s at end r.next
 
 abbrev pub LengthsForward : Type 0
 LengthsForward =
-    (order : RunTimeEndian) (s : List ℕ) (at end : ℕ) (l : InitialLength) → initial_length order s at end ≡ answered l
+    (order : RunTimeEndian) (s : Section) (at end : ℕ) (l : InitialLength) → initial_length order s at end ≡ answered l
     → Forward s at end l.next
 
 -- a read looks at no byte outside its part: of two sections with the same bytes there, it answers the same
 abbrev pub NumbersInPart : Type 0
 NumbersInPart =
-    (n : ℕ) (order : RunTimeEndian) (s t : List ℕ) (at end : ℕ) → 1 ≤ n → slice at end s ≡ slice at end t
+    (n : ℕ) (order : RunTimeEndian) (s t : Section) (at end : ℕ) → 1 ≤ n → slice at end s ≡ slice at end t
     → read_number n order s at end ≡ read_number n order t at end
 
 abbrev pub LengthsInPart : Type 0
 LengthsInPart =
-    (order : RunTimeEndian) (s t : List ℕ) (at end : ℕ) → slice at end s ≡ slice at end t
+    (order : RunTimeEndian) (s t : Section) (at end : ℕ) → slice at end s ≡ slice at end t
     → initial_length order s at end ≡ initial_length order t at end
 
 -- a part that is cut out begins at its place, has n bytes, and lies inside the part that it is cut from
 abbrev pub CutsInside : Type 0
 CutsInside =
-    (n : ℕ) (s : List ℕ) (at end : ℕ) (p : Part) → cut n s at end ≡ answered p
+    (n : ℕ) (s : Section) (at end : ℕ) (p : Part) → cut n s at end ≡ answered p
     → (p.at ≡ at) × (p.end ≡ at + n) × (p.end ≤ part_end s end)

@@ -17,6 +17,7 @@ use Rattle.attributes.specs.Meaning.{type_unit_of}
 use Rattle.attributes.specs.Sanity.{stands}
 use Rattle.records.specs.declared.unit.ShownUnit.{ShownUnit}
 use Rattle.records.specs.Units.{unit_of, of_type_unit, type_shown, compile_shown, default_shown, ◌orNext◌, entry_unit}
+use Rattle.reader.specs.Parts.{Section}
 
 -- the fact `type_unit` answers a unit, and that one is shown; or the fact is refused, and so is the unit
 abbrev pub AsTypeUnit : Outcome (Option NameTypeUnit) → Outcome ShownUnit → Type 0
@@ -28,18 +29,18 @@ AsTypeUnit fact unit =
 -- `attributes` says that an attribute stands exactly if the entry has it, in any form.
 abbrev pub TypeUnitDecides : Type 0
 TypeUnitDecides =
-    (order : RunTimeEndian) (s : List ℕ) (p : Parts) (f : Facts) → stands f.type_unit ≡ true
+    (order : RunTimeEndian) (s : Section) (p : Parts) (f : Facts) → stands f.type_unit ≡ true
     → AsTypeUnit (type_unit_of order s p f.type_unit) (entry_unit order s p f)
 
 -- Where it stands, the compile_unit attribute is not resolved: with any other one, or none, the unit is the
 -- same, and so is the refusal.
 abbrev pub OtherNotResolved : Type 0
 OtherNotResolved =
-    (order : RunTimeEndian) (s : List ℕ) (p : Parts) (f g : Facts) → stands f.type_unit ≡ true → f.type_unit ≡ g.type_unit
+    (order : RunTimeEndian) (s : Section) (p : Parts) (f g : Facts) → stands f.type_unit ≡ true → f.type_unit ≡ g.type_unit
     → entry_unit order s p f ≡ entry_unit order s p g
 
 -- the choice in the other order: the compile_unit attribute first
-unfoldable pub compile_unit_first : RunTimeEndian → List ℕ → Parts → Facts → Outcome ShownUnit
+unfoldable pub compile_unit_first : RunTimeEndian → Section → Parts → Facts → Outcome ShownUnit
 compile_unit_first order s p f =
     compile_shown order s p f.compile_unit
     orNext type_shown order s p f.type_unit
@@ -48,7 +49,7 @@ compile_unit_first order s p f =
 -- where one of the two attributes stands, or none, the unit is the same in either order
 abbrev pub OneUnitAsBefore : Type 0
 OneUnitAsBefore =
-    (order : RunTimeEndian) (s : List ℕ) (p : Parts) (f : Facts) → stands f.type_unit && stands f.compile_unit ≡ false
+    (order : RunTimeEndian) (s : Section) (p : Parts) (f : Facts) → stands f.type_unit && stands f.compile_unit ≡ false
     → entry_unit order s p f ≡ compile_unit_first order s p f
 
 -- Computed. The lists of an index, which end at 20: the compile units 0x100 and 0x200; from 8 on the local

@@ -19,7 +19,8 @@ use Rattle.headers.specs.Header.{header_cut, header_body, header}
 use Rattle.headers.specs.Headers.{header_at, headers_from}
 use Rattle.headers.proofs.HeaderLaws.{cut-forward, cut-offset, body_answered, headers_step}
 use Rattle.index.specs.Words.{word_bytes}
-use Rattle.index.specs.Layout.{no_index, parts, place, places_from, sizes, hash_bytes, PartsFit}
+use Rattle.index.specs.Layout.{no_index, parts, place, places_from, sizes, hash_bytes}
+use Rattle.index.specs.Inner.{PartsFit}
 use Rattle.index.specs.declared.layout.Parts.{Parts}
 use Rattle.index.specs.Open.{index_of, opened}
 use Rattle.index.proofs.LayoutLaws.{fitted-fits, own_index}

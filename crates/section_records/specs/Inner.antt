@@ -5,7 +5,8 @@ use Rattle.reader.specs.Listing.{Listing, followed_by}
 use Rattle.reader.specs.Parts.{Section}
 use Rattle.reader.specs.declared.endianity.RunTimeEndian.{RunTimeEndian}
 use Rattle.reader.specs.declared.error.Error.{Error}
-use Rattle.index.specs.Layout.{no_index, parts, PartsFit}
+use Rattle.index.specs.Layout.{no_index, parts}
+use Rattle.index.specs.Inner.{PartsFit}
 use Rattle.records.specs.declared.record.Record.{Record}
 use Rattle.index_query.specs.Inner.{index_left}
 use Rattle.section_records.specs.declared.QueryIter.{QueryIter}
@@ -22,7 +23,7 @@ unfoldable pub first_record : QueryIter
 first_record = record { at = 0; offset = 0; parts = parts no_index; records = record { name = record { 0 = 0 }; at = 0; next = 0 } }
 
 -- a cursor that was opened is past the header at a place, and its parts are those of an index that fits
-abbrev pub opened_past : List ℕ → ℕ → Result (Option QueryIter) Error → Type 0
+abbrev pub opened_past : Section → ℕ → Result (Option QueryIter) Error → Type 0
 opened_past s at (Ok (Some c)) = (at < c.at) × (c.at ≤ length s) × PartsFit s c.parts
 opened_past s at (Ok None) = Unit {0}
 opened_past s at (Err e) = Unit {0}

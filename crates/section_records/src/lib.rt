@@ -5,7 +5,7 @@
 
 ghost use Rattle.std.specs.Prelude.{◌≡◌, List, ℕ};
 ghost use Rattle.reader.specs.Listing.{item, left_by};
-ghost use Rattle.index.specs.Layout.{PartsFit};
+ghost use Rattle.index.specs.Inner.{PartsFit};
 ghost use Rattle.section_records.specs.Records.{headers_left};
 ghost use Rattle.section_records.specs.Inner.{query_left, first_record, opened_past};
 

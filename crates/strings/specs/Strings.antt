@@ -9,7 +9,7 @@ use Rattle.std.specs.Prelude.{ℕ, ◌+◌, List, [], ◌∷◌, cond, length, t
 use Rattle.reader.specs.Outcome.{Outcome, answered, refused, ◌>>=◌, ◌>>◌}
 use Rattle.reader.specs.declared.error.Error.TheVariants.{SectionTooLong, UnexpectedEof}
 use Rattle.reader.specs.Errors.{longest, fail_if, require}
-use Rattle.reader.specs.Parts.{skipped}
+use Rattle.reader.specs.Parts.{Section, skipped}
 use Rattle.strings.specs.declared.Str.{Str}
 
 -- the bytes before the first zero byte
@@ -18,12 +18,12 @@ before_zero [] = []
 before_zero (b ∷ bs) = cond (eqb b 0) [] (b ∷ before_zero bs)
 
 -- the place of the first zero byte from `start` on, or where the bytes end
-unfoldable pub zero_from : List ℕ → ℕ → ℕ
+unfoldable pub zero_from : Section → ℕ → ℕ
 zero_from s start = start + length (before_zero (drop start s))
 
 -- the string at an offset: up to the first zero byte; refusal 1 at its start where there is none, and at 0
 -- where the offset lies past the end
-unfoldable pub get_str : List ℕ → ℕ → Outcome Str
+unfoldable pub get_str : Section → ℕ → Outcome Str
 get_str s offset = do
   fail_if (ltb longest (length s)) SectionTooLong
   start ← skipped offset s 0 (length s)
@@ -31,10 +31,10 @@ get_str s offset = do
   answered (record { start = start; len = length (before_zero (drop start s)) })
 
 -- the bytes that stand there; none where it is refused
-unfoldable pub text_bytes : List ℕ → Outcome Str → List ℕ
+unfoldable pub text_bytes : Section → Outcome Str → List ℕ
 text_bytes s (answered t) = take t.len (drop t.start s)
 text_bytes s (refused n v) = []
 
 -- the bytes of the string at an offset
-unfoldable pub str_bytes : List ℕ → ℕ → List ℕ
+unfoldable pub str_bytes : Section → ℕ → List ℕ
 str_bytes s offset = text_bytes s (get_str s offset)

@@ -13,11 +13,12 @@ use Rattle.tables.specs.declared.TableCheck.{TableCheck}
 use Rattle.tables.specs.Check.{table_check}
 use Rattle.reader.specs.Answers.{outcome}
 use Rattle.reader.specs.declared.common.NameTableIndex.{NameTableIndex}
+use Rattle.reader.specs.Parts.{Section}
 
 -- The lookup of a hash lists all names that store it: `find_by_hash` gives a cursor; linked steps of the code
 -- lead from it to an end; and whatever linked steps reach an end, their answers up to the first end are all
 -- the names that store the hash, ascending, each once, and no refusal.
-abbrev pub ListsAll : RunTimeEndian → List ℕ → NameIndex → ℕ → Type 0
+abbrev pub ListsAll : RunTimeEndian → Section → NameIndex → ℕ → Type 0
 ListsAll order s i hash =
     (c : NameHashIter)
     × (outcome (Ok c) ≡ find_by_hash order s i hash)
@@ -31,5 +32,5 @@ ListsAll order s i hash =
 -- its lookups are refused.
 abbrev pub CompleteExactly : Type 0
 CompleteExactly =
-    (order : RunTimeEndian) (s : List ℕ) (i : NameIndex) → Bytes s → i.bucket_count < 2 ^ 32
+    (order : RunTimeEndian) (s : Section) (i : NameIndex) → Bytes s → i.bucket_count < 2 ^ 32
     → (outcome (Ok TableCheck.Complete) ≡ table_check order s i) ↔ ((hash : ℕ) → hash < 2 ^ 32 → ListsAll order s i hash)

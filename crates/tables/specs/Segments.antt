@@ -1,6 +1,6 @@
 -- How the code goes through the names, from 0 on, to find those that are missed: in segments, longest rows of
--- names that follow one another in one bucket. What it answers is defined in Check; a reader of the other
--- files need not know this.
+-- names that follow one another in one bucket. What it answers is defined in Check (SPECIFICATION 11.1); a
+-- reader of the other files need not know this.
 use Rattle.std.specs.Prelude.{ℕ, zero, suc, ◌+◌, ◌-◌, Bool, false, cond, List, [], ◌∷◌, leb, eqb}
 use Rattle.index.specs.declared.layout.NameIndex.{NameIndex}
 use Rattle.hashes.specs.Table.{bucket_of}

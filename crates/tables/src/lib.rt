@@ -9,8 +9,8 @@
 
 ghost use Rattle.std.specs.Prelude.{◌≡◌, ◌+◌, ◌*◌, ◌^◌, ◌≤◌, ◌<◌, length};
 ghost use Rattle.reader.specs.Answers.{outcome};
-ghost use Rattle.reader.specs.Outcome.{answered};
-ghost use Rattle.index.specs.Layout.{parts, fitted};
+ghost use Rattle.index.specs.Layout.{parts};
+ghost use Rattle.index.specs.Inner.{PartsFit};
 ghost use Rattle.hashes.specs.Table.{nth_of, stored_hash};
 ghost use Rattle.tables.specs.Check.{any_above, missed_names, table_check};
 ghost use Rattle.tables.specs.Segments.{no_segment, followed, reached_by, walked_to, first_of, counted_at};
@@ -113,10 +113,11 @@ fn is_reached(start: u32, first: u32, name: u32) -> bool
 // a segment. Read only where a segment begins, it would stand behind a jump that a processor often guesses wrong, and a wrong guess takes longer
 // than the read. So `follow` only chooses between values, and the jumps that are left always go the same way up to the first missed name.
 #[tactic(auto, unfolding(crate::specs::Segments::walked_to, crate::specs::Segments::first_of, hashes::specs::Table::stored_hash), using(crate::proofs::CheckLaws::fitted_parts, crate::proofs::CheckLaws::walked_first, crate::proofs::CheckLaws::left_all, crate::proofs::CheckLaws::left_on, crate::proofs::CheckLaws::left_found, crate::proofs::CheckLaws::left_none, crate::proofs::CheckLaws::missed_here, crate::proofs::SegmentLaws::before_suc, crate::proofs::CheckLaws::followed_below, hashes::proofs::TableLaws::hashes_within, hashes::proofs::TableLaws::starts_within))]
-fn first_missed(order: RunTimeEndian, section: &[u8], index: NameIndex, p: Parts) -> Walk
-    requires { (answered p ≡ fitted section.now index) × (0 < index.bucket_count) }
-    ensures { result ≡ walked_to index (stored_hash order section.now (parts index)) (first_of index.name_count (missed_names order section.now index)) }
+fn first_missed(order: RunTimeEndian, section: &[u8], p: Parts) -> Walk
+    requires { PartsFit section.now p × (0 < p.index.bucket_count) }
+    ensures { result ≡ walked_to p.index (stored_hash order section.now (parts p.index)) (first_of p.index.name_count (missed_names order section.now p.index)) }
 {
+    let index = p.index;
     let starts = p.bucket_data;
     let hashes = p.hash_table_data;
     let mut segment = no_segment(index);
@@ -158,17 +159,14 @@ fn counted(before: Count, segment: Segment, start: u32, name: u32) -> Count
     }
 }
 
-// Whether lookups by hash list every name: no table, a refusal for a start above the number of names and one, complete, or incomplete with
+// Whether lookups by hash list every name, in an index whose parts are `p`: no table, a refusal for a start above the number of names and one, complete, or incomplete with
 // the number of names that are missed, the smallest of them and its hash.
 #[tactic(auto, unfolding(crate::specs::Check::table_check, crate::specs::Segments::walked_to, crate::specs::Segments::counted_at, hashes::specs::Table::stored_start, hashes::specs::Table::stored_hash), using(crate::proofs::CheckLaws::fitted_parts, crate::proofs::CheckLaws::missed_here, crate::proofs::CheckLaws::kept_on, crate::proofs::CheckLaws::kept_more, crate::proofs::CheckLaws::kept_most, crate::proofs::CheckLaws::kept_least, crate::proofs::CheckLaws::kept_first, crate::proofs::CheckLaws::told_complete, crate::proofs::CheckLaws::told_lost, crate::proofs::SegmentLaws::before_suc, crate::proofs::CheckLaws::followed_below, hashes::proofs::TableLaws::hashes_within, hashes::proofs::TableLaws::starts_within))]
-pub fn check_table(
-    order: RunTimeEndian,
-    section: &[u8],
-    index: NameIndex,
-) -> Result<TableCheck, Error>
-    ensures { outcome result ≡ table_check order section.now index }
+pub fn check_table_in(order: RunTimeEndian, section: &[u8], p: Parts) -> Result<TableCheck, Error>
+    requires { PartsFit section.now p }
+    ensures { outcome result ≡ table_check order section.now p.index }
 {
-    let p = fit(section, index)?;
+    let index = p.index;
     let starts = p.bucket_data;
     let hashes = p.hash_table_data;
     if index.bucket_count == 0 {
@@ -178,7 +176,7 @@ pub fn check_table(
         return Err(Error::UnexpectedEof(hashes));
     }
     // No name before the first missed one is missed, so the count begins there, with none.
-    let first = first_missed(order, section, index, p);
+    let first = first_missed(order, section, p);
     let mut segment = first.segment;
     let mut count = Count {
         missed: 0,
@@ -199,4 +197,16 @@ pub fn check_table(
         name: NameTableIndex(count.least),
         hash,
     }))
+}
+
+// The check of an index: 13 and 14 come first.
+#[tactic(auto, unfolding(crate::specs::Check::table_check), using(index::proofs::LayoutLaws::fitted_own))]
+pub fn check_table(
+    order: RunTimeEndian,
+    section: &[u8],
+    index: NameIndex,
+) -> Result<TableCheck, Error>
+    ensures { outcome result ≡ table_check order section.now index }
+{
+    check_table_in(order, section, fit(section, index)?)
 }

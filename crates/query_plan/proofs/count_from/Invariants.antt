@@ -4,7 +4,7 @@ use mathlib.Core.Path.{◌≡◌}
 use Prim.Native.Nat.{◌+◌}
 use Rattle.reader.specs.Listing.{counted, items}
 use Rattle.reader.proofs.ListingLaws.{plus}
-use Rattle.index.specs.Layout.{PartsFit}
+use Rattle.index.specs.Inner.{PartsFit}
 use Rattle.section_records.specs.Inner.{query_left}
 use Rattle.query_plan.proofs.count_from.Given as goal
 

@@ -2,7 +2,7 @@
 use mathlib.Core.Path.{◌≡◌}
 use Prim.Native.Nat.{◌-◌}
 use lib.ListN.{length}
-use Rattle.index.specs.Layout.{PartsFit}
+use Rattle.index.specs.Inner.{PartsFit}
 use Rattle.section_records.specs.Inner.{query_left}
 use Rattle.section_records.proofs.QueryIter.next.Given as goal
 

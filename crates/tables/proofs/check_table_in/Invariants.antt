@@ -2,7 +2,7 @@
 use mathlib.Core.Path.{◌≡◌}
 use Rattle.index.specs.Layout.{parts}
 use Rattle.tables.proofs.CheckLaws.{walked, kept_before}
-use Rattle.tables.proofs.check_table.Given as goal
+use Rattle.tables.proofs.check_table_in.Given as goal
 
 abbrev pub invariant-loop-name : goal.invariant-loop-name
 invariant-loop-name l =
