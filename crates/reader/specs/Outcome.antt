@@ -4,11 +4,11 @@
 -- How to read a definition: `f : A → B` says what it takes and what it gives, and the lines below what it
 -- equals. `[]` is the empty list, `a ∷ l` the list l with a before it, `l ++ m` one list behind the other,
 -- and `λ x. e` a function of x; `Some a` and `None` are something and nothing. `unfoldable`, `abbrev` and
--- `pub` say nothing of what a definition answers. `record { f = v }` is a struct with these fields, `record x
--- { f = v }` is x with another v, and `x.f` the field of x; a struct of one number, as the number of a name,
--- has the field `0`. `let x : A = v in` names a value. In theorems `a ≡ b` says that they are equal, `P × Q`
--- that both hold, `P ⊎ Q` that one does, `P ↔ Q` that each follows from the other, `P → Q` that Q follows from
--- P, `(x : A) → P` that P holds of every x, and `(x : A) × P` that there is an x for which it does.
+-- `pub` say nothing of what a definition answers. `record { f = v }` is a struct with these fields, `x.f` the
+-- field f of x, and `record x { f = v }` is x with another f; a struct of one number, as the number of a name
+-- is, has the field `0`. `let x : A = v in` names a value. In theorems `a ≡ b` says that they are equal,
+-- `P × Q` that both hold, `P ⊎ Q` that one of them does, `P ↔ Q` that each follows from the other, `P → Q` that
+-- Q follows from P, `(x : A) → P` that P holds of every x, and `(x : A) × P` that there is an x with P.
 -- What the definitions of all crates take from the library: `ltb a b`, `leb a b` and `eqb a b` test whether a
 -- is below b, at most b and equal to b; `cond t x y` is x where the test t holds, and y where it does not;
 -- `take n l`, `drop n l` and `slice m n l` are the first n elements of a list, those after the first n, and
