@@ -38,20 +38,22 @@ pub data Each {A : Type 0} (claim : A → Type 0) : List A → Type 0 where
   of_none : Each claim []
   and_then : {a : A} {rest : List A} → claim a → Each claim rest → Each claim (a ∷ rest)
 
--- The indexes all open, and these are they: linked header steps of the code from place 0 reach the end, and
--- up to it answer their headers, without refusal; and `NameIndex::new` takes each header.
-abbrev pub AllOpen : RunTimeEndian → Section → List OpenIndex → Type 0
-AllOpen order s indexes =
-    ((steps : List (Taken NameIndexHeader NameIndexHeaderIter))
-    × Linked (header_step order s) first_header steps
-    × (has_end (header_answers steps) ≡ true)
-    × (up_to_end (header_answers steps) ≡ map (λ o. answered (Some o.header)) indexes))
-    × Each (λ o. outcome (Ok o.index) ≡ name_index s o.header) indexes
+-- a section, in its byte order
+module _ (order : RunTimeEndian) (s : Section) where
+  -- The indexes all open, and these are they: linked header steps of the code from place 0 reach the end, and
+  -- up to it answer their headers, without refusal; and `NameIndex::new` takes each header.
+  abbrev pub AllOpen : List OpenIndex → Type 0
+  AllOpen indexes =
+      ((steps : List (Taken NameIndexHeader NameIndexHeaderIter))
+      × Linked (header_step order s) first_header steps
+      × (has_end (header_answers steps) ≡ true)
+      × (up_to_end (header_answers steps) ≡ map (λ o. answered (Some o.header)) indexes))
+      × Each (λ o. outcome (Ok o.index) ≡ name_index s o.header) indexes
 
--- the table check says that an index is complete, or that it has no hash table
-abbrev pub CompleteOrNoTable : RunTimeEndian → Section → OpenIndex → Type 0
-CompleteOrNoTable order s o =
-    (outcome (Ok TableCheck.Complete) ≡ table_check order s o.index) ⊎ (outcome (Ok TableCheck.NoTable) ≡ table_check order s o.index)
+  -- the table check says that an index is complete, or that it has no hash table
+  abbrev pub CompleteOrNoTable : OpenIndex → Type 0
+  CompleteOrNoTable o =
+      (outcome (Ok TableCheck.Complete) ≡ table_check order s o.index) ⊎ (outcome (Ok TableCheck.NoTable) ≡ table_check order s o.index)
 
 -- What a query finds: its total is the number of what is expected; and the lent records are at exit the first
 -- of these, as many as there is room for, and after them what was there.

@@ -25,10 +25,13 @@ bucket_answers = answers
 abbrev pub hash_answers : List (Taken NameTableIndex NameHashIter) → List (Outcome (Option NameTableIndex))
 hash_answers = answers
 
--- these names as steps over a bucket answer them, each with its hash, and as steps over a hash do
-unfoldable pub bucket_names : RunTimeEndian → Section → Parts → List ℕ → List (Outcome (Option BucketName))
-bucket_names order s p = map λ n. answered (Some (hashed order s p n))
+-- a section, in its byte order
+module _ (order : RunTimeEndian) (s : Section) where
+  -- these names as steps over a bucket answer them, each with its hash
+  unfoldable pub bucket_names : Parts → List ℕ → List (Outcome (Option BucketName))
+  bucket_names p = map λ n. answered (Some (hashed order s p n))
 
+-- and as steps over a hash do
 unfoldable pub hash_names : List ℕ → List (Outcome (Option NameTableIndex))
 hash_names = map λ n. answered (Some (record { 0 = n }))
 

@@ -14,8 +14,8 @@ use Rattle.hashes.specs.Lookups.{first_in_bucket}
 
 -- a section, in its byte order, and the hash that is asked for
 module _ (order : RunTimeEndian) (s : Section) (hash : ℕ) where
-  -- B not 0: the names that `find_by_hash` lists up to the first end (`HashLookups`), refused as it is; B =
-  -- 0: all names
+  -- with B not 0 the names that `find_by_hash` lists up to the first end (`HashLookups`), refused as it is;
+  -- with B = 0 all names
   unfoldable pub candidates : Parts → Outcome (List ℕ)
   candidates p = cond (eqb p.index.bucket_count 0)
       (answered (names_from p.index 0))

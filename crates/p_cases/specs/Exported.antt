@@ -1,6 +1,6 @@
--- Demand 3 of the exported calls on case A: that what it supposes of the lookups, their steps and the query
--- holds there, and what it says, in the structs that the calls hand over; of the query with demand 3's own
--- suppositions, too.
+-- Demand 3 of the exported calls on case A (SPECIFICATION 14.4 and 14.6): that what it supposes of the
+-- lookups, their steps and the query holds there, and what it says, in the structs that the calls hand over;
+-- of the query with demand 3's own suppositions, too.
 use Rattle.std.specs.Prelude.{ℕ, ◌≡◌, List, [], ◌∷◌, ◌++◌, map, Option, Some}
 use Rattle.reader.specs.Outcome.{Outcome, answered}
 use Rattle.reader.specs.Listing.{answers_of}

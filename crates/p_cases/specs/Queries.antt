@@ -1,6 +1,6 @@
--- Case A's query, and demand 3 on case A: what its first two parts say of it, and for the third, on case A
--- and on a section of two indexes of which one has no hash table, that what it supposes holds there, and what
--- it says.
+-- Case A's query, and demand 3 on case A (SPECIFICATION 14.4 to 14.6): what its first two parts say of it,
+-- and for the third, on case A and on a section of two indexes of which one has no hash table, that what it
+-- supposes holds there, and what it says.
 use Rattle.std.specs.Prelude.{ℕ, ◌^◌, ◌<◌, ◌≡◌, List, [], ◌∷◌, ◌++◌, None}
 use Rattle.reader.specs.Outcome.{answered}
 use Rattle.reader.specs.declared.endianity.RunTimeEndian.{RunTimeEndian}

@@ -39,12 +39,14 @@ OtherNotResolved =
     (order : RunTimeEndian) (s : Section) (p : Parts) (f g : Facts) → stands f.type_unit ≡ true → f.type_unit ≡ g.type_unit
     → entry_unit order s p f ≡ entry_unit order s p g
 
--- the choice in the other order: the compile_unit attribute first
-unfoldable pub compile_unit_first : RunTimeEndian → Section → Parts → Facts → Outcome ShownUnit
-compile_unit_first order s p f =
-    compile_shown order s p f.compile_unit
-    orNext type_shown order s p f.type_unit
-    orNext default_shown order s p
+-- a section, in its byte order
+module _ (order : RunTimeEndian) (s : Section) where
+  -- the choice in the other order: the compile_unit attribute first
+  unfoldable pub compile_unit_first : Parts → Facts → Outcome ShownUnit
+  compile_unit_first p f =
+      compile_shown order s p f.compile_unit
+      orNext type_shown order s p f.type_unit
+      orNext default_shown order s p
 
 -- where one of the two attributes stands, or none, the unit is the same in either order
 abbrev pub OneUnitAsBefore : Type 0

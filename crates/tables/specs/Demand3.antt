@@ -15,16 +15,18 @@ use Rattle.reader.specs.Answers.{outcome}
 use Rattle.reader.specs.declared.common.NameTableIndex.{NameTableIndex}
 use Rattle.reader.specs.Parts.{Section}
 
--- The lookup of a hash lists all names that store it: `find_by_hash` gives a cursor; linked steps of the code
--- lead from it to an end; and whatever linked steps reach an end, their answers up to the first end are all
--- the names that store the hash, ascending, each once, and no refusal.
-abbrev pub ListsAll : RunTimeEndian → Section → NameIndex → ℕ → Type 0
-ListsAll order s i hash =
-    (c : NameHashIter)
-    × (outcome (Ok c) ≡ find_by_hash order s i hash)
-    × ((steps : List (Taken NameTableIndex NameHashIter)) × Linked (hash_step order s i) c steps × (has_end (hash_answers steps) ≡ true))
-    × ((steps : List (Taken NameTableIndex NameHashIter)) → Linked (hash_step order s i) c steps → has_end (hash_answers steps) ≡ true
-    → up_to_end (hash_answers steps) ≡ hash_names (all_storing order s i hash))
+-- a section, in its byte order
+module _ (order : RunTimeEndian) (s : Section) where
+  -- The lookup of a hash lists all names that store it: `find_by_hash` gives a cursor; linked steps of the code
+  -- lead from it to an end; and whatever linked steps reach an end, their answers up to the first end are all
+  -- the names that store the hash, ascending, each once, and no refusal.
+  abbrev pub ListsAll : NameIndex → ℕ → Type 0
+  ListsAll i hash =
+      (c : NameHashIter)
+      × (outcome (Ok c) ≡ find_by_hash order s i hash)
+      × ((steps : List (Taken NameTableIndex NameHashIter)) × Linked (hash_step order s i) c steps × (has_end (hash_answers steps) ≡ true))
+      × ((steps : List (Taken NameTableIndex NameHashIter)) → Linked (hash_step order s i) c steps → has_end (hash_answers steps) ≡ true
+      → up_to_end (hash_answers steps) ≡ hash_names (all_storing order s i hash))
 
 -- The check reports a table complete exactly when the lookup of every hash of 32 bits lists all names that
 -- store it. That the section's bytes are bytes and that the number of buckets has 32 bits holds for whatever

@@ -46,14 +46,16 @@ told_by (TableCheck.Incomplete lost) = missing lost.missed
 abbrev pub told_of : ℕ → Told
 told_of missed = cond (eqb missed 0) all-reached (missing missed)
 
-unfoldable pub told_before : RunTimeEndian → Section → NameIndex → Outcome Told
-told_before order s i = do
-  p ← fitted s i
-  cond (eqb i.bucket_count 0)
-      (answered no_hash_table)
-      (do
-        fail_if (any_above i.name_count (stored_start order s p) i.bucket_count) (UnexpectedEof p.hash_table_data)
-        answered (told_of (length (missed_names order s i))))
+-- a section, in its byte order
+module _ (order : RunTimeEndian) (s : Section) where
+  unfoldable pub told_before : NameIndex → Outcome Told
+  told_before i = do
+    p ← fitted s i
+    cond (eqb i.bucket_count 0)
+        (answered no_hash_table)
+        (do
+          fail_if (any_above i.name_count (stored_start order s p) i.bucket_count) (UnexpectedEof p.hash_table_data)
+          answered (told_of (length (missed_names order s i))))
 
 -- The name and the hash are added to an incomplete answer, and nothing else is changed: no table, complete,
 -- the number of missed names and every refusal are those of the check that tells no more.
@@ -80,16 +82,18 @@ LostLeast =
     × ((name : ℕ) → memberb name (missed_names order s i) ≡ true → lost.name.0 ≤ name)
     × (lost.hash ≡ stored_hash order s (parts i) lost.name.0)
 
--- The lookup of a hash lists names, but not this one: `find_by_hash` gives a cursor; linked steps of the code
--- lead from it to an end; and whatever linked steps reach an end, their answers up to the first end are
--- names, and this one is not among them.
-abbrev pub ListsWithout : RunTimeEndian → Section → NameIndex → ℕ → ℕ → Type 0
-ListsWithout order s i hash name =
-    (c : NameHashIter)
-    × (outcome (Ok c) ≡ find_by_hash order s i hash)
-    × ((steps : List (Taken NameTableIndex NameHashIter)) × Linked (hash_step order s i) c steps × (has_end (hash_answers steps) ≡ true))
-    × ((steps : List (Taken NameTableIndex NameHashIter)) → Linked (hash_step order s i) c steps → has_end (hash_answers steps) ≡ true
-    → (names : List ℕ) × (up_to_end (hash_answers steps) ≡ hash_names names) × (memberb name names ≡ false))
+-- a section, in its byte order
+module _ (order : RunTimeEndian) (s : Section) where
+  -- The lookup of a hash lists names, but not this one: `find_by_hash` gives a cursor; linked steps of the code
+  -- lead from it to an end; and whatever linked steps reach an end, their answers up to the first end are
+  -- names, and this one is not among them.
+  abbrev pub ListsWithout : NameIndex → ℕ → ℕ → Type 0
+  ListsWithout i hash name =
+      (c : NameHashIter)
+      × (outcome (Ok c) ≡ find_by_hash order s i hash)
+      × ((steps : List (Taken NameTableIndex NameHashIter)) × Linked (hash_step order s i) c steps × (has_end (hash_answers steps) ≡ true))
+      × ((steps : List (Taken NameTableIndex NameHashIter)) → Linked (hash_step order s i) c steps → has_end (hash_answers steps) ≡ true
+      → (names : List ℕ) × (up_to_end (hash_answers steps) ≡ hash_names names) × (memberb name names ≡ false))
 
 -- So a lookup that stops at the first end does not find the name: it is one of all names that store the hash,
 -- and the lookup of the hash lists names without it.
