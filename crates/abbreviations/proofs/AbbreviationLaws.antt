@@ -1,7 +1,7 @@
 -- Laws of the abbreviation table: pairs and declarations one at a time, with no count of turns, and what each answer tells.
 use Prim.Native.Nat.{ℕ, zero, suc, ◌+◌, ◌-◌, ◌≤◌, ◌<◌}
 use mathlib.Core.Path.{◌≡◌, refl, sym, ap, ◌∙◌}
-use mathlib.Core.Bool.{Bool, true, false, cond}
+use mathlib.Core.Bool.{Bool, true, false, cond, true≢false}
 use mathlib.Core.Logic.{◌⊎◌, inl, inr}
 use mathlib.Core.List.{List, []}
 use Rattle.std.specs.Prelude.{Option, Some, None, option_map}
@@ -9,7 +9,7 @@ use Rattle.reader.proofs.OutcomeLaws.{none-ne-some, some-injective}
 use native.Mathlib.Omega.{arith}
 use lib.Dec.{ltb, eqb}
 use lib.Seq.{slice}
-use borrow.Author.Tests.{eq-eqb, ne_eqb, eqb-true, ltb-true, ltb-false}
+use borrow.Author.Tests.{eq-eqb, ne_eqb, eqb-true, le-ltb, ltb-true, ltb-false}
 use Rattle.reader.specs.Outcome.{Outcome, answered, refused, ◌>>=◌, ◌>>◌, demand, refuse_if}
 use Rattle.reader.specs.Parts.{part_end, left_at, Forward}
 use Rattle.reader.specs.Numbers.{read_byte}
@@ -27,7 +27,7 @@ use Rattle.abbreviations.specs.declared.ReadAttribute.{ReadAttribute}
 use Rattle.abbreviations.specs.declared.Head.{Head}
 use Rattle.abbreviations.specs.Sanity.{TablesUnfold, DeclarationsForward, DeclarationsRead, FoundInTable, TablesInPart}
 use Rattle.abbreviations.specs.Abbreviations.{pair, Attributes, attribute_then, attributes_in, attributes, head, Declaration, with_attributes, declaration, table, ending, parsed, find, abbreviation_of, found}
-use Rattle.abbreviations.specs.Inner.{of_two_bytes, short_pair, attributes_end, declared}
+use Rattle.abbreviations.specs.Inner.{is_short, of_two_bytes, short_pair, attributes_end, declared}
 
 -- the test of a pair
 abbrev tested : ℕ → ℕ → Outcome (Unit {0})
@@ -290,6 +290,45 @@ pairs_on s at end x y given not_last = attributes_end_step s at end ∙ rw (pair
 
 pub pairs_last : (s : List ℕ) (at end x y : ℕ) → short_pair s at end ≡ Some (x, y) → x ≡ 0 → attributes_end s at end ≡ answered (at + 2)
 pairs_last s at end x y given last = attributes_end_step s at end ∙ rw (pair_short s at end x y given, eq-eqb x 0 last)
+
+-- two bytes from 1 to 127 are a short pair that is not the last
+short_some : (s : List ℕ) (at end : ℕ) → is_short s at end ≡ true → (x : ℕ) × (y : ℕ) × (short_pair s at end ≡ Some (x, y)) × (x ≡ 0 → ⊥)
+unfolding is_short
+short_some s at end given = first_byte (read_byte s at end) refl
+  where
+    first_byte : (o : Outcome (Read ℕ)) → read_byte s at end ≡ o → (x : ℕ) × (y : ℕ) × (short_pair s at end ≡ Some (x, y)) × (x ≡ 0 → ⊥)
+    first_byte (refused n v) e = absurd (true≢false (sym (rw e at given)))
+    first_byte (answered a) e = second-byte (read_byte s a.next end) refl
+      where
+        second-byte : (o : Outcome (Read ℕ)) → read_byte s a.next end ≡ o → (x : ℕ) × (y : ℕ) × (short_pair s at end ≡ Some (x, y)) × (x ≡ 0 → ⊥)
+        second-byte (refused n v) f = absurd (true≢false (sym (rw (e, f) at given)))
+        second-byte (answered b) f = by_tests (ltb a.value 1) refl (ltb 127 a.value) refl (ltb b.value 1) refl
+          where
+            by_tests : (t : Bool) → ltb a.value 1 ≡ t → (u : Bool) → ltb 127 a.value ≡ u → (v : Bool) → ltb b.value 1 ≡ v
+                → (x : ℕ) × (y : ℕ) × (short_pair s at end ≡ Some (x, y)) × (x ≡ 0 → ⊥)
+            by_tests true et u eu v ev = absurd (true≢false (sym (rw (e, f, et) at given)))
+            by_tests false et true eu v ev = absurd (true≢false (sym (rw (e, f, et, eu) at given)))
+            by_tests false et false eu true ev = absurd (true≢false (sym (rw (e, f, et, eu, ev) at given)))
+            by_tests false et false eu false ev =
+                let few = ltb-true b.value 128 (rw (e, f, et, eu, ev) at given) in
+                let first = ltb-false a.value 1 et in
+                let second = ltb-false b.value 1 ev in (
+                  a.value,
+                  b.value,
+                  short_pair_bytes s at end
+                      ∙ rw (e, f, eu, le-ltb 127 b.value (omega arith), ne_eqb a.value 0 (λ z. omega (arith, first, z)), ne_eqb b.value 0 (λ z. omega (arith, second, z))) refl,
+                  λ z. omega (arith, first, z),
+                )
+
+pub short_on : (s : List ℕ) (at end : ℕ) → is_short s at end ≡ true → attributes_end s at end ≡ attributes_end s (at + 2) end
+short_on s at end short =
+    let (x, y, given, not_last) = short_some s at end short in
+    pairs_on s at end x y given not_last
+
+pub short_inside : (s : List ℕ) (at end : ℕ) → is_short s at end ≡ true → at + 2 ≤ part_end s end
+short_inside s at end short =
+    let (x, y, given, not_last) = short_some s at end short in
+    short_place s at end x y given
 
 -- they move forward, and stay inside their part
 attributes_forward_in : (k : ℕ) (s : List ℕ) (at end : ℕ) (a : Attributes) → attributes_in s k at end ≡ answered a → Forward s at end a.next

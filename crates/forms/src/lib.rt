@@ -23,6 +23,7 @@ pub enum NameAttributeValue {
 
 // The value at `at` in the form of that code; a form that is none of the twelve is refused with 9.
 #[tactic(auto, unfolding(crate::specs::Forms::form_value, crate::specs::Forms::as_flag, crate::specs::Forms::as_unsigned, crate::specs::Forms::as_offset))]
+#[inline(always)]
 pub fn read_debug_names_form_value(
     form: u16,
     order: RunTimeEndian,

@@ -56,7 +56,7 @@ fn hashes(buckets: u32, names: u32) -> usize
 // Where each part of the index begins.
 // (They need the section's limit, so no `From`.)
 #[tactic(auto, unfolding(crate::specs::Layout::parts, crate::specs::Layout::place, crate::specs::Layout::places_from, crate::specs::Layout::sizes), using(crate::proofs::LayoutLaws::words_most, crate::proofs::LayoutLaws::hashes_most, reader::proofs::ErrorLaws::longest_most))]
-pub(crate) fn places(index: NameIndex) -> Parts
+pub fn places(index: NameIndex) -> Parts
     requires { index.begin ≤ longest }
     ensures { result ≡ parts index }
 {

@@ -10,6 +10,6 @@ pub mod word; // words, and a list of them
 pub mod layout; // an index: where each of its parts lies
 pub mod open; // opening an index, and an index from a header
 
-pub use layout::{NameIndex, Parts, fit};
+pub use layout::{NameIndex, Parts, fit, places};
 pub use open::{index, open_index};
 pub use word::{nth_word, words};

@@ -10,9 +10,9 @@ use lib.ListN.{length}
 use lib.Dec.{leb, eqb}
 use borrow.Author.Tests.{eq-eqb, ne_eqb, le-leb, lt-leb}
 use Rattle.reader.specs.Outcome.{answered}
-use Rattle.reader.specs.Lists.{filterb}
+use Rattle.reader.specs.Lists.{numbers_from, filterb, take_while}
 use Rattle.reader.specs.declared.endianity.RunTimeEndian.{RunTimeEndian}
-use Rattle.reader.proofs.ListLaws.{past-other}
+use Rattle.reader.proofs.ListLaws.{numbers_length, filter-length, while_length, past-other}
 use Rattle.index.specs.declared.layout.NameIndex.{NameIndex}
 use Rattle.index.specs.declared.layout.Parts.{Parts}
 use Rattle.index.specs.Layout.{parts}
@@ -144,3 +144,24 @@ module _ (order : RunTimeEndian) (s : List ℕ) (hash : ℕ) where
       pub stored_none : (f : Found) → f ≡ next_storing p.index (nth_of order s p.hash_table_data) (bucket_of p.index hash) hash from → f.name ≡ None
           → candidates_from order s hash p from ≡ []
       stored_none f found is = rw (next-stored, sym found, is)
+
+  -- there are no more candidates than names
+  pub candidates-length : (p : Parts) (from : ℕ) → length (candidates_from order s hash p from) ≤ p.index.name_count
+  unfolding candidates_from storing run_from names_from
+  candidates-length p from = tested (eqb p.index.bucket_count 0)
+    where
+      same_bucket : ℕ → Bool
+      same_bucket n = eqb (bucket_of p.index (stored_hash order s p n)) (bucket_of p.index hash)
+
+      run-names : List ℕ
+      run-names = take_while same_bucket (numbers_from from (p.index.name_count - from))
+
+      tested : (t : Bool) → length (cond t (numbers_from from (p.index.name_count - from)) (filterb (λ n. eqb (stored_hash order s p n) hash) run-names)) ≤ p.index.name_count
+      tested true = omega (arith, numbers_length from (p.index.name_count - from))
+      tested false =
+          omega (
+            arith,
+            numbers_length from (p.index.name_count - from),
+            while_length same_bucket (numbers_from from (p.index.name_count - from)),
+            filter-length (λ n. eqb (stored_hash order s p n) hash) run-names,
+          )

@@ -97,6 +97,7 @@ pub mod read {
 
     // The same of 16 bits, in which such a number fits.
     #[tactic(auto, using(crate::proofs::Leb128Limits::byte_before, crate::proofs::Leb128Limits::u16_below))]
+    #[inline(always)]
     pub fn u16(s: &[u8], at: usize, end: usize) -> Result<Read<u16>, Error>
         ensures { outcome result ≡ leb128 u16_limit s.now at end }
     {

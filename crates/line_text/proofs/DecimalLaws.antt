@@ -1,12 +1,15 @@
--- Laws of decimal digits: what a number's digits are without the turns, that `io::decimal` writes them, and that they say the number.
+-- Laws of decimal digits: what a number's digits are without the turns, that `{}`, `itoa` and `io::decimal` write them, and that they say the number.
 use Prim.Native.Nat.{ℕ, zero, suc, ◌+◌, ◌-◌, ◌*◌, ◌/◌, ◌%◌, ◌^◌, ◌≤◌, ◌<◌}
 use mathlib.Core.Path.{◌≡◌, refl, sym, ap, ◌∙◌}
 use mathlib.Core.Bool.{Bool, true, false, cond}
 use mathlib.Core.List.{List, [], ◌∷◌, ◌++◌}
+use native.Mathlib.Nat.{pow-suc, one-le-pow, pow-le-pow_right}
+use native.Mathlib.Numerals.{unary_clauses}
 use native.Mathlib.Omega.{arith}
 use lib.ListN.{get_or}
 use lib.Dec.{ltb}
 use borrow.Author.Tests.{lt-ltb, le-ltb, ltb-true, ltb-false}
+use Rattle.io.specs.Digits.{hex_digit_ascii, last_digits, IsDigitCount}
 use Rattle.std.specs.Fmt as Fmt
 use Rattle.std.proofs.lemmas.Fmt.{decimal_by_steps}
 use Rattle.line_text.specs.Text.{digit, digits_in, decimal}
@@ -41,9 +44,40 @@ decimal-one n small = decimal_step n ∙ rw (lt-ltb n 10 small)
 pub decimal-more : (n : ℕ) → 10 ≤ n → decimal n ≡ decimal (n / 10) ++ (digit (n % 10) ∷ [])
 decimal-more n large = decimal_step n ∙ rw (le-ltb n 10 large)
 
--- the digits that `{}` prints are these
+-- the digits that `{}` and `itoa` write are these
 pub printed_decimal : (n : ℕ) → n < 2 ^ 64 → Fmt.decimal n ≡ decimal n
 printed_decimal = decimal_by_steps (λ n ds. ds ≡ decimal n) (λ n small. sym (decimal-one n small)) (λ n ds large before. ap (λ ds. ds ++ ((48 + n % 10) ∷ [])) before ∙ sym (decimal-more n large))
+
+-- the digit that `io::decimal` writes is ours
+glyph_digit : (d : ℕ) → d < 10 → hex_digit_ascii d ≡ digit d
+glyph_digit d small = rw (lt-ltb d 10 small)
+
+-- so are its digits, where there are as few as it says
+pub digits_decimal : (k n : ℕ) → IsDigitCount 10 1 n k → last_digits 10 k n ≡ decimal n
+digits_decimal zero n (some-digits, below, no-fewer) = absurd (omega arith)
+digits_decimal (suc zero) n (some-digits, below, no-fewer) =
+    let small : n < 10 = omega arith in
+    let same : n % 10 ≡ n = omega arith in
+    rw (same, decimal-one n small) (ap (λ d. d ∷ []) (glyph_digit n small))
+digits_decimal (suc (suc k)) n (some-digits, below, no-fewer) =
+    let least = simp unary_clauses at (no-fewer (omega arith)) in
+    let one_more_lem : 10 ^ suc (suc k) ≡ 10 ^ suc k * 10 = pow-suc 10 (suc k) in
+    let power : 10 ^ suc k ≡ 10 ^ k * 10 = pow-suc 10 k in
+    let some : 1 ≤ 10 ^ k = one-le-pow k 10 (omega arith) in
+    let rest = digits_decimal (suc k) (n / 10) (omega arith, omega arith, λ h. simp unary_clauses (omega arith)) in
+    rw (glyph_digit (n % 10) (omega arith), decimal-more n (omega arith)) (ap (λ ds. ds ++ (digit (n % 10) ∷ [])) rest)
+
+-- a number of 64 bits has at most 20 digits
+pub few_digits : (k n : ℕ) → IsDigitCount 10 1 n k → n < 2 ^ 64 → k ≤ 20
+few_digits k n (some-digits, below, no-fewer) fits = by_test (ltb 20 k) refl
+  where
+    by_test : (b : Bool) → ltb 20 k ≡ b → k ≤ 20
+    by_test true e =
+        let many = ltb-true 20 k e in
+        let least = no-fewer (omega arith) in
+        let power : 10 ^ 20 ≤ 10 ^ (k - 1) = pow-le-pow_right {n = 10} (omega arith) {i = 20} {j = k - 1} (omega arith) in
+        absurd (omega arith)
+    by_test false e = ltb-false 20 k e
 
 -- one digit behind others
 read_behind : (v : ℕ) (ds : List ℕ) (d : ℕ) → read_from v (ds ++ (d ∷ [])) ≡ 10 * read_from v ds + (d - 48)

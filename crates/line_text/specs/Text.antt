@@ -14,7 +14,6 @@ use Rattle.listing.specs.declared.lines.Line.{Line}
 use Rattle.std.specs.Prelude.{Result, Ok, Err}
 use Rattle.reader.specs.Errors.{number_of}
 use Rattle.reader.specs.declared.error.Error.{Error}
-use Rattle.line_text.specs.declared.LineText.{LineText}
 
 -- the bytes of a word in ASCII: the codes of its characters
 unfoldable pub bytes : String → List ℕ
@@ -73,10 +72,7 @@ line_text (Line.Indexes n) = bytes "indexes " ++ decimal n ++ line_end
 unfoldable pub refused_text : ℕ → List ℕ
 refused_text number = bytes "refused " ++ decimal number ++ line_end
 
--- the text of what a step prints: that of its line, or of the refusal in its place
-abbrev pub text_of : LineText → List ℕ
-text_of t = answer_text_of t.0
-  where
-    answer_text_of : Result Line Error → List ℕ
-    answer_text_of (Ok l) = line_text l
-    answer_text_of (Err e) = refused_text (number_of e)
+-- what stands for a step's answer: the text of its line, or of the refusal in its place
+abbrev pub text_of : Result Line Error → List ℕ
+text_of (Ok l) = line_text l
+text_of (Err e) = refused_text (number_of e)

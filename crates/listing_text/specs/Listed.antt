@@ -3,7 +3,7 @@
 use Rattle.std.specs.Prelude.{ℕ, ◌≡◌, List, [], ◌∷◌, map, Option, Some, None}
 use Rattle.listing.specs.declared.lines.ListingIter.{ListingIter}
 use Rattle.listing.specs.Lines.{first_line}
-use Rattle.line_text.specs.Text.{text_of}
+use Rattle.line_text.specs.Room.{shown}
 use Rattle.line_text.specs.declared.LineText.{LineText}
 use Rattle.listing_text.specs.declared.TextStep.{TextStep}
 use Rattle.listing_text.specs.Listing.{joined, section_text}
@@ -19,10 +19,10 @@ pub data StepsFrom (s : Section) : ListingIter → List TextStep → Type 0 wher
       → ◌≡◌ {A = Option LineText} t.text (Some l)
       → StepsFrom s t.cursor ts → StepsFrom s c (t ∷ ts)
 
--- what a step prints: the text that it gives, or nothing
+-- what a step prints: the bytes of the text that it gives, or nothing
 abbrev pub printed_bytes : Option LineText → List ℕ
 printed_bytes None = []
-printed_bytes (Some l) = text_of l
+printed_bytes (Some t) = shown t
 
 -- The texts of these steps, one after another, are the text of the section's listing.
 abbrev pub TextListed : Type 0

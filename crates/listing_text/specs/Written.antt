@@ -8,7 +8,8 @@ use Rattle.reader.specs.declared.endianity.RunTimeEndian.{RunTimeEndian}
 use Rattle.listing.specs.declared.lines.Line.{Line}
 use Rattle.listing.specs.declared.lines.ListingIter.{ListingIter}
 use Rattle.listing.specs.Lines.{line_step}
-use Rattle.line_text.specs.Text.{line_text, refused_text, text_of}
+use Rattle.line_text.specs.Text.{line_text, refused_text}
+use Rattle.line_text.specs.Room.{shown}
 use Rattle.line_text.specs.declared.LineText.{LineText}
 use Rattle.listing_text.specs.declared.TextStep.{TextStep}
 use Rattle.reader.specs.Parts.{Section}
@@ -18,10 +19,10 @@ pub record Written : Type 0 where
   pub text : Option (List ℕ)
   pub cursor : ListingIter
 
--- the same of what the code gives
+-- the same of what the code gives: the bytes of its text
 abbrev pub printed : Option LineText → Option (List ℕ)
 printed None = None
-printed (Some t) = Some (text_of t)
+printed (Some t) = Some (shown t)
 
 abbrev pub written_of : TextStep → Written
 written_of t = record { text = printed t.text; cursor = t.cursor }

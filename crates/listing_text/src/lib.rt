@@ -2,7 +2,8 @@
 // gives nothing, prints the text of the section's listing.
 #![tactic(auto)]
 
-ghost use Rattle.std.specs.Prelude.{◌≡◌};
+ghost use Rattle.std.specs.Prelude.{◌≡◌, IfSome};
+ghost use Rattle.line_text.specs.Room.{Room};
 ghost use Rattle.listing_text.specs.Written.{written_of, text_step};
 
 use line_text::LineText;
@@ -20,11 +21,11 @@ pub struct TextStep {
 // is printed.
 #[tactic(auto, unfolding(crate::specs::Written::text_step))]
 pub fn next_text(section: &[u8], cursor: ListingIter) -> TextStep
-    ensures { written_of result ≡ text_step section.now cursor }
+    ensures { (written_of result ≡ text_step section.now cursor) × IfSome result.text (λ t. Room t 0) }
 {
     let step = cursor.next(RunTimeEndian::Little, section);
     TextStep {
-        text: step.answer.transpose().map(LineText),
+        text: step.answer.transpose().map(LineText::from),
         cursor: step.cursor,
     }
 }

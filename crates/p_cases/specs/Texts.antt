@@ -1,11 +1,10 @@
 -- The listing as text: case A's, byte for byte as SPECIFICATION 16.3 has it, that of an empty section, and
 -- that of a section which is refused; and the steps that a program makes over an empty section, so that
 -- `TextListed`, which supposes such steps, speaks of a real case.
-use Rattle.std.specs.Prelude.{◌≡◌, [], ◌∷◌, ◌++◌, Ok, Err, Some, None}
-use Rattle.reader.specs.declared.error.Error.{Error}
-use Rattle.listing.specs.declared.lines.Line.{Line}
+use Rattle.std.specs.Prelude.{ℕ, ◌≡◌, ◌-◌, false, List, [], ◌∷◌, ◌++◌, length, replicate, Some, None}
 use Rattle.listing.specs.Lines.{first_line, ended_at}
 use Rattle.line_text.specs.Text.{bytes}
+use Rattle.line_text.specs.declared.LineText.{LineText}
 use Rattle.listing_text.specs.Listing.{section_text}
 use Rattle.listing_text.specs.declared.TextStep.{TextStep}
 use Rattle.listing_text.specs.Listed.{StepsFrom}
@@ -27,14 +26,23 @@ TextOfNothing = section_text [] ≡ bytes "indexes 0\n"
 abbrev pub TextRefused : Type 0
 TextRefused = section_text (105 ∷ 0 ∷ 0 ∷ 0 ∷ []) ≡ bytes "refused 1\n"
 
+-- a text of these bytes as the code's struct holds it: they stand first, and 0 in the rest of the room
+abbrev pub holding : List ℕ → LineText
+holding text = record { 0 = record { bytes = text ++ replicate (128 - length text) 0; len = length text; is_truncated = false } }
+
 -- the steps over an empty section, and over one that is refused: the line, or the refusal in its place, and
 -- nothing behind it
+abbrev pub last_line : TextStep
+last_line = record { text = Some (holding (bytes "indexes 0\n")); cursor = ended_at first_line }
+
+abbrev pub refused_line : TextStep
+refused_line = record { text = Some (holding (bytes "refused 1\n")); cursor = ended_at first_line }
+
 abbrev pub nothing_behind : TextStep
 nothing_behind = record { text = None; cursor = ended_at first_line }
 
 abbrev pub StepsOfNothing : Type 0
-StepsOfNothing = StepsFrom [] first_line (record { text = Some (record { 0 = Ok (Line.Indexes 0) }); cursor = ended_at first_line } ∷ nothing_behind ∷ [])
+StepsOfNothing = StepsFrom [] first_line (last_line ∷ nothing_behind ∷ [])
 
 abbrev pub StepsRefused : Type 0
-StepsRefused =
-    StepsFrom (105 ∷ 0 ∷ 0 ∷ 0 ∷ []) first_line (record { text = Some (record { 0 = Err (Error.UnexpectedEof 4) }); cursor = ended_at first_line } ∷ nothing_behind ∷ [])
+StepsRefused = StepsFrom (105 ∷ 0 ∷ 0 ∷ 0 ∷ []) first_line (refused_line ∷ nothing_behind ∷ [])

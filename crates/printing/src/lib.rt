@@ -1,6 +1,6 @@
 // Prints the listing of a section to standard output (SPECIFICATION 13.4). Which bytes each line has is decided by `line_text` and
-// `listing_text`, and proved there; here they are printed.
-// What cannot be read or printed ends the program with the error.
+// `listing_text`, and proved there; here they are written.
+// What cannot be read or written ends the program with the error.
 #![tactic(auto)]
 
 use line_text::LineText;
@@ -21,12 +21,12 @@ pub fn list_input(rt: &(impl Print + Input)) -> io::Result<()> {
     let mut one = [0; 1];
     let more = read_full(rt, &mut one)?;
     if more != 0 {
-        return rt.print(LineText(Err(Error::SectionTooLong)));
+        return rt.write_all(LineText::from(Err(Error::SectionTooLong)).bytes());
     }
     print_listing(rt, &bytes[..len])
 }
 
-// The listing of a little-endian section. It stops at the first line that cannot be printed.
+// The listing of a little-endian section. It stops at the first line that cannot be written.
 pub fn print_listing(rt: &impl Print, section: &[u8]) -> io::Result<()> {
     let mut cursor = section_lines();
     for _ in 0..LINES {
@@ -34,7 +34,7 @@ pub fn print_listing(rt: &impl Print, section: &[u8]) -> io::Result<()> {
         let Some(text) = step.text else {
             return Ok(());
         };
-        rt.print(text)?;
+        rt.write_all(text.bytes())?;
         cursor = step.cursor;
     }
     Ok(())

@@ -6,6 +6,7 @@ use Rattle.reader.specs.Listing.{items_of}
 use Rattle.reader.specs.Parts.{Section}
 use Rattle.reader.specs.declared.error.Error.{Error}
 use Rattle.reader.specs.declared.endianity.RunTimeEndian.{RunTimeEndian}
+use Rattle.index.specs.Layout.{parts}
 use Rattle.index.specs.Inner.{PartsFit}
 use Rattle.records.specs.declared.record.Record.{Record}
 use Rattle.section_records.specs.Records.{section_records}
@@ -39,4 +40,4 @@ nothing_to_write answer = record { answer = answer; writing = record { left = 0;
 
 -- where something is left to write, the cursor's index fits
 abbrev pub Ready : Section → Writing → Type 0
-Ready s w = (w.left ≡ 0 → ⊥) → PartsFit s w.cursor.parts
+Ready s w = (w.left ≡ 0 → ⊥) → PartsFit s (parts w.cursor.index)

@@ -10,6 +10,7 @@ ghost use Rattle.std.specs.Prelude.{◌≡◌, ◌+◌, ◌<◌, ◌^◌};
 ghost use Rattle.reader.specs.Answers.{outcome};
 ghost use Rattle.reader.specs.Listing.{counted, items};
 ghost use Rattle.section_records.specs.Inner.{query_left};
+ghost use Rattle.index.specs.Layout.{parts};
 ghost use Rattle.index.specs.Inner.{PartsFit};
 ghost use Rattle.query_plan.specs.Inner.{planned, writing_left, plan_outcome, write_left, nothing_to_write, Ready};
 
@@ -44,7 +45,7 @@ fn count_from(
     hash: u32,
     name: &[u8],
 ) -> Result<u64, Error>
-    requires { (items (query_left order section.now strings.now hash name.now from) < 2 ^ 64) × PartsFit section.now from.parts }
+    requires { (items (query_left order section.now strings.now hash name.now from) < 2 ^ 64) × PartsFit section.now (parts from.index) }
     ensures { outcome result ≡ counted (query_left order section.now strings.now hash name.now from) }
 {
     let mut cursor = from;

@@ -7,7 +7,7 @@ use native.Mathlib.Nat.{mul_assoc, mul_comm, mul-add, pow-succ', mod-add-div}
 use native.Mathlib.Omega.{arith}
 use Rattle.std.proofs.lemmas.List.{take_all}
 use lib.ListN.{length, take, drop, get_or, length-take, length-drop, length-reverse, length-append}
-use lib.Seq.{slice, take-suc, drop-cons, take_at}
+use lib.Seq.{slice, take-suc, take-add, drop-drop, drop-cons, take_at}
 use lib.Dec.{ltb, eqb}
 use Rattle.std.specs.Int.{byte_worth, sum_through}
 use Rattle.reader.specs.Outcome.{answered, refused}
@@ -61,6 +61,26 @@ big_number order k s at bs big here fits =
     let all : length bs ≡ suc k = rw here (simp (length-take, length-drop) (omega arith)) in
     let none : k - k ≡ 0 = omega arith in
     rw (big, ← here) (rw (take_all (suc k) bs (omega arith), none) at (big_sum bs k k (omega arith) (omega arith)) ∙ omega arith)
+
+-- where the low and the high half of a number of n + n bytes stand
+abbrev low_at : RunTimeEndian → ℕ → ℕ → ℕ
+low_at Little n at = at
+low_at Big n at = at + n
+
+abbrev high_at : RunTimeEndian → ℕ → ℕ → ℕ
+high_at Little n at = at + n
+high_at Big n at = at
+
+-- a number of n + n bytes is made of its halves
+pub number_join : (order : RunTimeEndian) (n : ℕ) (s : List ℕ) (at : ℕ) → at + (n + n) ≤ length s
+    → number_at order n s (low_at order n at) + 256 ^ n * number_at order n s (high_at order n at) ≡ number_at order (n + n) s at
+unfolding number_at spelled
+number_join Little n s at h =
+    let front : length (take n (drop at s)) ≡ n = simp (length-take, length-drop) (omega arith) in
+    rw (take-add, drop-drop, digits_append, front)
+number_join Big n s at h =
+    let back : length (take n (drop (at + n) s)) ≡ n = simp (length-take, length-drop) (omega arith) in
+    rw (take-add, drop-drop, reverse-append, digits_append, length-reverse, back)
 
 -- a number of one byte is that byte, in either order
 pub number-one : (order : RunTimeEndian) (s : List ℕ) (at : ℕ) → at < length s → number_at order 1 s at ≡ get_or s at 0

@@ -24,12 +24,14 @@ pub trait Number: Copy {
     ghost has_bytes: { 1 ≤ SIZE };
 }
 
-// The N bytes at a place.
+// The N bytes at a place. (Copied, and not by `first_chunk().unwrap()`, which tests once more that they are there.)
 fn bytes_at<const N: usize>(s: &[u8], at: usize) -> [u8; N]
     requires { at + N ≤ length s.now }
     ensures { result ≡ take N (drop at s.now) }
 {
-    *s[at..].first_chunk().unwrap()
+    let mut bytes = [0; N];
+    bytes.copy_from_slice(&s[at..at + N]);
+    bytes
 }
 
 // The three differ in the integer whose `from_le_bytes` and `from_be_bytes` they call, which the library has for each type, but in no trait.

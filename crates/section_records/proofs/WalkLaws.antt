@@ -1,6 +1,6 @@
 -- Laws of the walk over the headers of a section.
 use Prim.Native.Nat.{ℕ, ◌^◌, ◌≤◌, ◌<◌}
-use mathlib.Core.Path.{◌≡◌, refl, sym, ◌∙◌}
+use mathlib.Core.Path.{◌≡◌, refl, sym, ap, subst, ◌∙◌}
 use mathlib.Core.Bool.{Bool, true, false, cond}
 use mathlib.Core.List.{List}
 use Rattle.std.specs.Prelude.{Some, None}
@@ -21,9 +21,10 @@ use Rattle.headers.proofs.HeaderLaws.{cut-forward, cut-offset, body_answered, he
 use Rattle.index.specs.Words.{word_bytes}
 use Rattle.index.specs.Layout.{no_index, parts, place, places_from, sizes, hash_bytes}
 use Rattle.index.specs.Inner.{PartsFit}
+use Rattle.index.specs.declared.layout.NameIndex.{NameIndex}
 use Rattle.index.specs.declared.layout.Parts.{Parts}
 use Rattle.index.specs.Open.{index_of, opened}
-use Rattle.index.proofs.LayoutLaws.{fitted-fits, own_index}
+use Rattle.index.proofs.LayoutLaws.{fitted-fits, fitted-answered, own_index, parts_own, parts-follow, places_ascend}
 use Rattle.index.proofs.OpenLaws.{opened_own}
 use Rattle.hashes.specs.Table.{names_from}
 use Rattle.records.specs.declared.record.Record.{Record}
@@ -71,7 +72,22 @@ pub no_parts : parts no_index ≡ record {
 unfolding no_index parts place places_from sizes word_bytes hash_bytes
 no_parts = refl
 
-pub first_fits : (s : List ℕ) → length s ≤ longest → PartsFit s first_record.parts
+-- an index that fits begins in the first bytes that a section may have
+pub begins_small : (s : List ℕ) (i : NameIndex) → PartsFit s (parts i) → i.begin ≤ longest
+unfolding parts
+begins_small s i given =
+    let (short, (pool, ends), same) = fitted-answered s i (parts i) (sym given) in
+    let (first, follow) = parts-follow i in
+    omega (arith, first, places_ascend i 0 8 (omega arith) (omega arith))
+
+-- the parts of an index that was opened are those that are worked out of it
+pub opened_fits : (s : List ℕ) (i : NameIndex) (p : Parts) → answered p ≡ opened s i → PartsFit s (parts p.index)
+opened_fits s i p is =
+    let fits = opened_own s i p is in
+    subst (PartsFit s) (parts_own s p fits) fits
+
+-- before the first header an index is open that has no names, and fits
+pub first_fits : (s : List ℕ) → length s ≤ longest → PartsFit s (parts first_record.index)
 unfolding first_record no_index parts place places_from sizes word_bytes hash_bytes
 first_fits s short = sym (fitted-fits s no_index short (omega arith, omega arith))
 
@@ -114,9 +130,16 @@ module _ (order : RunTimeEndian) (s strs : List ℕ) (hash : ℕ) (text : List �
   none_opened n v rest = refl
 
   -- what a cursor has left
-  pub cursor_left : (c : QueryIter) → query_left order s strs hash text c ≡ followed_by (index_left order s strs hash text c.offset c.parts c.records) (headers_left order s strs hash text c.at)
+  pub cursor_left : (c : QueryIter) → query_left order s strs hash text c ≡ followed_by (index_left order s strs hash text c.offset (parts c.index) c.records) (headers_left order s strs hash text c.at)
   unfolding query_left
   cursor_left c = refl
+
+  -- and where its index was opened, by the parts that were answered
+  pub opened_left : (i : NameIndex) (p : Parts) (at offset : ℕ) (r : IndexIter) → answered p ≡ opened s i
+      → query_left order s strs hash text (record { at = at; offset = offset; index = p.index; records = r }) ≡ followed_by (index_left order s strs hash text offset p r) (headers_left order s strs hash text at)
+  unfolding query_left
+  opened_left i p at offset r is =
+      ap (λ q. followed_by (index_left order s strs hash text offset q r) (headers_left order s strs hash text at)) (sym (parts_own s p (opened_own s i p is)))
 
   -- before the first header the empty index has no records
   first-left : query_left order s strs hash text first_record ≡ headers_left order s strs hash text 0

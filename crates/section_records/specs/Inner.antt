@@ -16,14 +16,14 @@ use Rattle.section_records.specs.Records.{headers_left}
 module _ (order : RunTimeEndian) (s strs : Section) (hash : ℕ) (text : List ℕ) where
   -- the records that a cursor has left: those of its index, and those of the headers after it
   unfoldable pub query_left : QueryIter → Listing Record
-  query_left c = followed_by (index_left order s strs hash text c.offset c.parts c.records) (headers_left order s strs hash text c.at)
+  query_left c = followed_by (index_left order s strs hash text c.offset (parts c.index) c.records) (headers_left order s strs hash text c.at)
 
 -- the cursor before the first header: no index is open
 unfoldable pub first_record : QueryIter
-first_record = record { at = 0; offset = 0; parts = parts no_index; records = record { name = record { 0 = 0 }; at = 0; next = 0 } }
+first_record = record { at = 0; offset = 0; index = no_index; records = record { name = record { 0 = 0 }; at = 0; next = 0 } }
 
--- a cursor that was opened is past the header at a place, and its parts are those of an index that fits
+-- a cursor that was opened is past the header at a place, and its index fits
 abbrev pub opened_past : Section → ℕ → Result (Option QueryIter) Error → Type 0
-opened_past s at (Ok (Some c)) = (at < c.at) × (c.at ≤ length s) × PartsFit s c.parts
+opened_past s at (Ok (Some c)) = (at < c.at) × (c.at ≤ length s) × PartsFit s (parts c.index)
 opened_past s at (Ok None) = Unit {0}
 opened_past s at (Err e) = Unit {0}

@@ -4,8 +4,8 @@ use Rattle.reader.specs.Parts.{left_at}
 use Rattle.abbreviations.specs.Inner.{attributes_end}
 use Rattle.abbreviations.proofs.skip_attributes.Given as goal
 
-abbrev pub invariant-loop-name : goal.invariant-loop-name
-invariant-loop-name l = attributes_end l.s l.at l.end ≡ attributes_end l.s l.place l.end
+abbrev pub invariant-loop-place : goal.invariant-loop-place
+invariant-loop-place l = attributes_end l.s l.at l.end ≡ attributes_end l.s l.place l.end
 
-abbrev pub decreases-loop-name : goal.decreases-loop-name
-decreases-loop-name l = left_at l.s l.place l.end
+abbrev pub decreases-loop-place : goal.decreases-loop-place
+decreases-loop-place l = left_at l.s l.place l.end

@@ -2,6 +2,7 @@
 use mathlib.Core.Path.{◌≡◌}
 use Prim.Native.Nat.{◌-◌}
 use lib.ListN.{length}
+use Rattle.index.specs.Layout.{parts}
 use Rattle.index.specs.Inner.{PartsFit}
 use Rattle.section_records.specs.Inner.{query_left}
 use Rattle.section_records.proofs.QueryIter.next.Given as goal
@@ -9,7 +10,7 @@ use Rattle.section_records.proofs.QueryIter.next.Given as goal
 abbrev pub invariant-loop-record : goal.invariant-loop-record
 invariant-loop-record l =
     (query_left l.order l.section l.strings l.hash l.name l.initial.self ≡ query_left l.order l.section l.strings l.hash l.name l.self)
-    × PartsFit l.section l.self.parts
+    × PartsFit l.section (parts l.self.index)
 
 abbrev pub decreases-loop-record : goal.decreases-loop-record
 decreases-loop-record l = length l.section - l.self.at
