@@ -1,4 +1,4 @@
--- The code's struct of a text, and room for what is put behind one.
+-- The code's struct of a line's text (SPECIFICATION 13.1), and room for what is put behind one.
 use Rattle.std.specs.Prelude.{ℕ, ◌+◌, ◌≤◌, ◌≡◌, List, ◌++◌, length}
 use Rattle.std.specs.Fmt.InlineText.{inline_text, IsIntact, IsOpen}
 use Rattle.line_text.specs.declared.LineText.{LineText}
